@@ -28,7 +28,7 @@ module _ (acts : Acting) (n log limit : ℕ) (parcel_of : List ℕ → Option Pa
   pub acts_blind : IsBlind r
   acts_blind = record { blind = λ kind here s a. acts.blind n kind here s a }
 
-  module _ (con : Console) (mark : ℕ) (users : IsUsers acts.consoles con mark) where
+  module _ (con : Console) (mark : ℕ) (users : IsUsers con mark) where
     pub law_plain : (lines : List (List ℕ)) (blocks : List (List Entry)) → length lines < 4000000000 → HasGrammar r → NoneFails (entries_of blocks)
         → IsSession r [] (marked mark lines) blocks → written lines (shown blocks) ≡ lines_text con n (at_boot n) lines
     law_plain lines blocks short grammar calm session =

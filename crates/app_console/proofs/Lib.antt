@@ -24,4 +24,3 @@ pub mod Namings
 pub mod Plans
 pub mod SessionKeeps
 pub mod SessionLaws
-pub mod NothingMoves

@@ -56,7 +56,7 @@ waits n k v bytes p h = record {
 }
 
 module _ (acts : Acting) (n log limit : ℕ) (parcel_of : List ℕ → Option Parcel) (some : 1 ≤ n) (few : n ≤ 64) (k : ℕ) (little : k + 1 ≤ 4000000000) (lower : k ≤ 4000000000) (v : Plain) (con : Console)
-    (mark : ℕ) (line : List ℕ) (mark_is : Session.console_of acts.consoles mark ≡ Some con) (short : length line ≤ 16384) (first : IsFirst con v) where
+    (mark : ℕ) (line : List ℕ) (mark_is : Session.console_of mark ≡ Some con) (short : length line ≤ 16384) (first : IsFirst con v) where
   abbrev r : Rules
   r = judging acts n log limit parcel_of
 

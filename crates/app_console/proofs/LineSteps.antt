@@ -176,7 +176,7 @@ IsFirst Own v = v.names ≡ []
 IsFirst _ v = Unit {0}
 
 module _ (acts : Acting) (n log limit : ℕ) (parcel_of : List ℕ → Option Parcel) (some : 1 ≤ n) (few : n ≤ 64) (k : ℕ) (little : k ≤ 4000000000) (v : Plain) (con : Console)
-    (mark : ℕ) (line : List ℕ) (mark_is : Session.console_of acts.consoles mark ≡ Some con) (short : length line ≤ 16384) (first : IsFirst con v) (p q : Pool) (h : Fed n k v (mark ∷ line) p) where
+    (mark : ℕ) (line : List ℕ) (mark_is : Session.console_of mark ≡ Some con) (short : length line ≤ 16384) (first : IsFirst con v) (p q : Pool) (h : Fed n k v (mark ∷ line) p) where
   abbrev r : Rules
   r = judging acts n log limit parcel_of
 
@@ -248,7 +248,7 @@ module _ (acts : Acting) (n log limit : ℕ) (parcel_of : List ℕ → Option Pa
   outcome =
       let low = h.few in
       acts.session n here s a c few h.home (shown_at h.drawn d c (omega arith) back.shown) (ap is_some mark_is)
-      ∙ (ap (Session.session_by acts.consoles n s a) (shown_at h.drawn d c (omega arith) back.shown)
+      ∙ (ap (Session.session_by n s a) (shown_at h.drawn d c (omega arith) back.shown)
       ∙ (ap (Session.line_of n s a c line) mark_is ∙ ap (λ z. Session.planned con h.drawn c (plan_of con z line)) sight_same))
 
   -- ---- what is spoken

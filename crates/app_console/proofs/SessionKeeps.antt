@@ -25,7 +25,7 @@ use Rattle.hpx_value.specs.Laws.{KeepsLaws, UsesEachOnce, IsTarget, MovesBelow, 
 use Rattle.hpx_value.proofs.Kept as HandLemmas
 use Rattle.hpx_calls.specs.Values.{spelled, shifted}
 use Rattle.hpx_calls.proofs.Keeps.{count-append, all_append}
-use Rattle.app_console.specs.Types.{Consoles, Console, Here, Naming, What, NotSaid, Told, Released, Bound, Desk, Argument, GivenWord, GivenObject, GivenNumber, Goal, Named, RootAt, Plan, DoesNothing, ShowsHelp, Refuses, GivesUp, Calls, Stands}
+use Rattle.app_console.specs.Types.{Console, Here, Naming, What, NotSaid, Told, Released, Bound, Desk, Argument, GivenWord, GivenObject, GivenNumber, Goal, Named, RootAt, Plan, DoesNothing, ShowsHelp, Refuses, GivesUp, Calls, Stands}
 use Rattle.app_console.specs.Commands.{help_of, plan_of, refusal_text, answer_text}
 use Rattle.app_console.specs.Desks
 use Rattle.app_console.specs.Session
@@ -337,7 +337,7 @@ status_seek kind (x ∷ xs) name k e = by_name (bytes_eq name x.name) e (status_
     by_name true f g = by_to x.to f
     by_name false f g = g f
 
-module _ (cs : Consoles) (n here : ℕ) (s : State) (a : Act) (some : 1 ≤ n) (few : n ≤ 64) (state : IsState s) (act : IsAct a) (h : IsSpeaking s a) (d : Desk Value) (desk : IsDesk (length s.ids) d) where
+module _ (n here : ℕ) (s : State) (a : Act) (some : 1 ≤ n) (few : n ≤ 64) (state : IsState s) (act : IsAct a) (h : IsSpeaking s a) (d : Desk Value) (desk : IsDesk (length s.ids) d) where
   abbrev limit : ℕ
   limit = length s.ids + length a.ids + 0
 
@@ -446,11 +446,11 @@ module _ (cs : Consoles) (n here : ℕ) (s : State) (a : Act) (some : 1 ≤ n) (
       said n here s a act h (record { names = Desks.answered spelled what (shifted (length s.ids) v) d.names; awaits = Desks.erased slot d.awaits }) (Session.printed text)
       (answered_names what v (held_what slot d.awaits what desk.awaits.0 e) low) (less_awaits 101 slot d.awaits awaits_now) (printed_few text) (printed_fits text (answer_fits what (spelled.look v)))
 
-  args_keeps : (args : List Value) → a.args ≡ args → KeepsLaws n 1 here s a (Session.session_args cs n s a d a.code args)
+  args_keeps : (args : List Value) → a.args ≡ args → KeepsLaws n 1 here s a (Session.session_args n s a d a.code args)
   args_keeps (Text (mark ∷ line) ∷ []) e =
       let P : List Value → Type 0 = AllByRecursion IsValue in
       let each = subst P e act.values.each in
-      cond_both (a.code == 4) _ _ (KeepsLaws n 1 here s a) (λ f. line_keeps mark line (Session.console_of cs mark) each.0) (λ f. refusal_keeps n 1 here s a (lit≤ tt) state act)
+      cond_both (a.code == 4) _ _ (KeepsLaws n 1 here s a) (λ f. line_keeps mark line (Session.console_of mark) each.0) (λ f. refusal_keeps n 1 here s a (lit≤ tt) state act)
   args_keeps (Int (pos slot) ∷ v ∷ []) e =
       cond_both (a.code == 3) _ _ (KeepsLaws n 1 here s a) (λ f. taken_keeps slot v (Desks.held_at slot d.awaits) refl (place_fine v e)) (λ f. refusal_keeps n 1 here s a (lit≤ tt) state act)
     where
@@ -474,17 +474,17 @@ none_kept : (conts : List Cont) → (length conts == 0) ≡ true → conts ≡ [
 none_kept [] e = refl
 none_kept (c ∷ conts) e = let none = eqb-true (suc (length conts)) 0 e in absurd (omega arith)
 
-module _ (cs : Consoles) (n here : ℕ) (s : State) (a : Act) (some : 1 ≤ n) (few : n ≤ 64) (state : IsState s) (act : IsAct a) where
-  cont_keeps : (d : Desk Value) (cont : Option Cont) → IsDesk (length s.ids) d → s.conts ≡ [] → a.cont ≡ cont → KeepsLaws n 1 here s a (Session.session_cont cs n s a d cont)
-  cont_keeps d None desk none e = args_keeps cs n here s a some few state act (record { conts = none; cont = e }) d desk a.args refl
+module _ (n here : ℕ) (s : State) (a : Act) (some : 1 ≤ n) (few : n ≤ 64) (state : IsState s) (act : IsAct a) where
+  cont_keeps : (d : Desk Value) (cont : Option Cont) → IsDesk (length s.ids) d → s.conts ≡ [] → a.cont ≡ cont → KeepsLaws n 1 here s a (Session.session_cont n s a d cont)
+  cont_keeps d None desk none e = args_keeps n here s a some few state act (record { conts = none; cont = e }) d desk a.args refl
   cont_keeps d (Some c) desk none e = refusal_keeps n 1 here s a (lit≤ tt) state act
 
-  by_desk : (o : Option (Desk Value)) → Session.desk_at s ≡ o → KeepsLaws n 1 here s a (Session.session_by cs n s a o)
+  by_desk : (o : Option (Desk Value)) → Session.desk_at s ≡ o → KeepsLaws n 1 here s a (Session.session_by n s a o)
   by_desk None e = refusal_keeps n 1 here s a (lit≤ tt) state act
   by_desk (Some d) e = by_shape ((length s.conts == 0) && nat_le s.drawn 4000000000) refl e
     where
       by_shape : (b : Bool) → ((length s.conts == 0) && nat_le s.drawn 4000000000) ≡ b → (if b then Desks.desk_shown spelled s.values else None) ≡ Some d
-          → KeepsLaws n 1 here s a (Session.session_cont cs n s a d a.cont)
+          → KeepsLaws n 1 here s a (Session.session_cont n s a d a.cont)
       by_shape false f g = absurd (cc)
       by_shape true f g =
           let none = none_kept s.conts (and_parts (length s.conts == 0) (nat_le s.drawn 4000000000) f).0 in
@@ -492,6 +492,6 @@ module _ (cs : Consoles) (n here : ℕ) (s : State) (a : Act) (some : 1 ≤ n) (
           let ids = state.ids in
           cont_keeps d a.cont (desk_shown_is s.values (length s.ids) d state.refs (HandLemmas.counted_below (length s.ids) 0 (refs_in s.values) state.refs (omega arith)) g) none refl
 
-pub session_keeps : (cs : Consoles) (n here : ℕ) (s : State) (a : Act) → 1 ≤ n → n ≤ 64 → here < n → IsState s → IsAct a → KeepsLaws n 1 here s a (Session.session_outcome cs n s a)
+pub session_keeps : (n here : ℕ) (s : State) (a : Act) → 1 ≤ n → n ≤ 64 → here < n → IsState s → IsAct a → KeepsLaws n 1 here s a (Session.session_outcome n s a)
 unfolding Session.session_outcome
-session_keeps cs n here s a some few low state act = by_desk cs n here s a some few state act (Session.desk_at s) refl
+session_keeps n here s a some few low state act = by_desk n here s a some few state act (Session.desk_at s) refl

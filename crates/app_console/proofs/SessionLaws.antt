@@ -1,7 +1,7 @@
 -- All actions keep the laws, and look neither at names nor at credits.
-use Rattle.std.specs.Prelude.{ℕ, zero, suc, pos, true, List, [], ◌∷◌, ◌≡◌, ◌<◌, ◌≤◌, ◌==◌, Option, Some, None, length, map, refl, if◌then◌else◌}
-use Rattle.std.proofs.Common.{sym, ap, ◌∙◌, subst, arith}
-use Rattle.std.proofs.lemmas.Bool.{cond_both, eqb-true, eqb-false, le-leb, lt-ltb}
+use Rattle.std.specs.Prelude.{ℕ, zero, suc, pos, List, [], ◌∷◌, ◌≡◌, ◌≢◌, ◌<◌, ◌≤◌, ◌==◌, Option, Some, None, length, map, refl, if◌then◌else◌}
+use Rattle.std.proofs.Common.{sym, ap, ◌∙◌, subst}
+use Rattle.std.proofs.lemmas.Bool.{cond_both, eqb-true}
 use Rattle.std.proofs.lemmas.List.{length-map}
 use Rattle.hpx_value.specs.Ids.{Id, bare}
 use Rattle.hpx_value.specs.Values.{named, message_of, bare_act, bare_state}
@@ -14,26 +14,20 @@ use Rattle.hpx_value.specs.Kept.{stays}
 use Rattle.hpx_calls.specs.Outcomes.{outcome_of}
 use Rattle.hpx_calls.proofs.Lawful.{every_keeps}
 use Rattle.hpx_calls.proofs.Blind.{outcome_blind}
-use Rattle.app_console.specs.Types.{Spelled, SpelledInt, SpelledText, SpelledFault, Cont, Naming, What, Desk, Consoles, Console}
+use Rattle.app_console.specs.Types.{Spelled, SpelledInt, SpelledText, SpelledFault, Cont, Naming, What, Desk, Console}
 use Rattle.app_console.specs.Commands.{Sight, plan_of}
 use Rattle.app_console.specs.Desks.{status_in, status_by, held_at}
 use Rattle.app_console.specs.Session
-use Rattle.app_console.proofs.SessionKeeps.{session_keeps, refusal_keeps}
-
-pub place : (n here : ℕ) → n ≤ 64 → here < n → Session.is_place n here ≡ true
-place n here few h = rw (lt-ltb here n h, le-leb n 64 few) refl
+use Rattle.app_console.proofs.SessionKeeps.{session_keeps}
 
 -- ---- all
 
-pub keeps_laws : (cs : Consoles) (n kind here : ℕ) (s : State) (a : Act) → 1 ≤ n → n ≤ 64 → here < n → IsState s → IsAct a → KeepsLaws n kind here s a (Session.act_of cs n kind here s a)
+pub keeps_laws : (n kind here : ℕ) (s : State) (a : Act) → 1 ≤ n → n ≤ 64 → here < n → kind ≢ 7 → IsState s → IsAct a → KeepsLaws n kind here s a (Session.act_of n kind here s a)
 unfolding Session.act_of
-keeps_laws cs n kind here s a some few low h act =
-    rw (place n here few low)
-    (cond_both (kind == 1) _ _ (KeepsLaws n kind here s a)
-    (λ e. subst (λ k. KeepsLaws n k here s a (Session.session_outcome cs n s a)) (sym (eqb-true kind 1 e)) (session_keeps cs n here s a some few low h act))
-    (λ e. cond_both (kind == 7) _ _ (KeepsLaws n kind here s a)
-    (λ f. let seven = eqb-true kind 7 f in refusal_keeps n kind here s a (omega arith) h act)
-    (λ f. every_keeps n kind here s a low (eqb-false kind 7 f) h act)))
+keeps_laws n kind here s a some few low plain h act =
+    cond_both (kind == 1) _ _ (KeepsLaws n kind here s a)
+    (λ e. subst (λ k. KeepsLaws n k here s a (Session.session_outcome n s a)) (sym (eqb-true kind 1 e)) (session_keeps n here s a some few low h act))
+    (λ e. every_keeps n kind here s a low plain h act)
 
 -- ---- blindness
 
@@ -75,26 +69,24 @@ taken_blind : (s : State) (a : Act) (d : Desk Spelled) (slot : ℕ) (v : Spelled
 taken_blind s a d slot v None = refl
 taken_blind s a d slot v (Some w) = ap (λ m. Session.taken_by s.drawn d slot v w m) (sym (length-map s.ids bare))
 
-args_blind : (cs : Consoles) (n : ℕ) (s : State) (a : Act) (d : Desk Spelled) (code : ℕ) (args : List Spelled)
-    → Session.session_args cs n s a d code args ≡ Session.session_args cs n (bare_state s) (blind a) d code args
-args_blind cs n s a d code (SpelledText (mark ∷ line) ∷ []) =
-    ap (λ o. if code == 4 then o else stays s a (SpelledFault 11)) (line_blind n s a d line (Session.console_of cs mark))
-args_blind cs n s a d code (SpelledInt (pos slot) ∷ v ∷ []) =
+args_blind : (n : ℕ) (s : State) (a : Act) (d : Desk Spelled) (code : ℕ) (args : List Spelled)
+    → Session.session_args n s a d code args ≡ Session.session_args n (bare_state s) (blind a) d code args
+args_blind n s a d code (SpelledText (mark ∷ line) ∷ []) =
+    ap (λ o. if code == 4 then o else stays s a (SpelledFault 11)) (line_blind n s a d line (Session.console_of mark))
+args_blind n s a d code (SpelledInt (pos slot) ∷ v ∷ []) =
     ap (λ o. if code == 3 then o else stays s a (SpelledFault 11)) (taken_blind s a d slot v (held_at slot d.awaits))
-args_blind cs n s a d code _ = refl
+args_blind n s a d code _ = refl
 
-cont_blind : (cs : Consoles) (n : ℕ) (s : State) (a : Act) (d : Desk Spelled) (c : Option Cont) → Session.session_cont cs n s a d c ≡ Session.session_cont cs n (bare_state s) (blind a) d c
-cont_blind cs n s a d None = args_blind cs n s a d a.code a.args
-cont_blind cs n s a d (Some c) = refl
+cont_blind : (n : ℕ) (s : State) (a : Act) (d : Desk Spelled) (c : Option Cont) → Session.session_cont n s a d c ≡ Session.session_cont n (bare_state s) (blind a) d c
+cont_blind n s a d None = args_blind n s a d a.code a.args
+cont_blind n s a d (Some c) = refl
 
-by_blind : (cs : Consoles) (n : ℕ) (s : State) (a : Act) (d : Option (Desk Spelled)) → Session.session_by cs n s a d ≡ Session.session_by cs n (bare_state s) (blind a) d
-by_blind cs n s a None = refl
-by_blind cs n s a (Some d) = cont_blind cs n s a d a.cont
+by_blind : (n : ℕ) (s : State) (a : Act) (d : Option (Desk Spelled)) → Session.session_by n s a d ≡ Session.session_by n (bare_state s) (blind a) d
+by_blind n s a None = refl
+by_blind n s a (Some d) = cont_blind n s a d a.cont
 
-pub is_blind : (cs : Consoles) (n kind here : ℕ) (s : State) (a : Act) → Session.act_of cs n kind here s a ≡ Session.act_of cs n kind here (bare_state s) (blind a)
+pub is_blind : (n kind here : ℕ) (s : State) (a : Act) → Session.act_of n kind here s a ≡ Session.act_of n kind here (bare_state s) (blind a)
 unfolding Session.act_of Session.session_outcome
-is_blind cs n kind here s a =
-    ap (λ o. if Session.is_place n here then (if kind == 1 then o else if kind == 7 then stays s a (SpelledFault 11) else outcome_of n kind here s a) else stays s a (SpelledFault 11))
-    (by_blind cs n s a (Session.desk_at s))
-    ∙ ap (λ o. if Session.is_place n here then (if kind == 1 then Session.session_outcome cs n (bare_state s) (blind a) else if kind == 7 then stays s a (SpelledFault 11) else o) else stays s a (SpelledFault 11))
-    (outcome_blind n kind here s a)
+is_blind n kind here s a =
+    ap (λ o. if kind == 1 then o else outcome_of n kind here s a) (by_blind n s a (Session.desk_at s))
+    ∙ ap (λ o. if kind == 1 then Session.session_outcome n (bare_state s) (blind a) else o) (outcome_blind n kind here s a)

@@ -7,7 +7,7 @@ use Rattle.hpx_parcel.specs.declared.parcel.Parcel.{Parcel}
 use Rattle.hpx_journal.specs.Entries.{Rules}
 use Rattle.hpx_journal.specs.Pool.{Pool}
 use Rattle.hpx_journal.specs.Sessions.{IsPlainBlock, IsPlainSession, IsPlainFront, IsPlainBrokenOff}
-use Rattle.app_console.specs.Types.{Consoles, AllConsoles, Console, Space, AccumulatorConsole, Own}
+use Rattle.app_console.specs.Types.{Console, Space, AccumulatorConsole, Own}
 use Rattle.app_console.specs.Console.{prompt}
 use Rattle.app_console.specs.Session
 use Rattle.app_console.specs.Judging.{Acting, judging}
@@ -30,22 +30,22 @@ front_longer before text written tail whole h = record {
 fits_line : (line : List ℕ) → is_long line ≡ false → length line ≤ 16384
 fits_line line e = let low = ltb-false 1024 (length line) e in omega arith
 
-mark_known : (cs : Consoles) (con : Console) (mark : ℕ) → IsUsers cs con mark → Session.console_of cs mark ≡ Some con
-mark_known cs Space mark h = ap (λ c. Session.console_of c mark) h.0 ∙ ap (Session.console_of AllConsoles) h.1
-mark_known cs AccumulatorConsole mark h = ap (Session.console_of cs) h
-mark_known cs Own mark h = absurd h
+mark_known : (con : Console) (mark : ℕ) → IsUsers con mark → Session.console_of mark ≡ Some con
+mark_known Space mark h = ap Session.console_of h
+mark_known AccumulatorConsole mark h = ap Session.console_of h
+mark_known Own mark h = absurd h
 
-always_first : (cs : Consoles) (con : Console) (mark : ℕ) → IsUsers cs con mark → (v : Plain) → IsFirst con v
-always_first cs Space mark h v = tt
-always_first cs AccumulatorConsole mark h v = tt
-always_first cs Own mark h v = absurd h
+always_first : (con : Console) (mark : ℕ) → IsUsers con mark → (v : Plain) → IsFirst con v
+always_first Space mark h v = tt
+always_first AccumulatorConsole mark h v = tt
+always_first Own mark h v = absurd h
 
-module _ (acts : Acting) (n log limit : ℕ) (parcel_of : List ℕ → Option Parcel) (some : 1 ≤ n) (few : n ≤ 64) (con : Console) (mark : ℕ) (users : IsUsers acts.consoles con mark) where
+module _ (acts : Acting) (n log limit : ℕ) (parcel_of : List ℕ → Option Parcel) (some : 1 ≤ n) (few : n ≤ 64) (con : Console) (mark : ℕ) (users : IsUsers con mark) where
   abbrev r : Rules
   r = judging acts n log limit parcel_of
 
-  known : Session.console_of acts.consoles mark ≡ Some con
-  known = mark_known acts.consoles con mark users
+  known : Session.console_of mark ≡ Some con
+  known = mark_known con mark users
 
   -- one line and those behind it, by whether it is too long
   line_text_is : (b : Bool) (k : ℕ) (v : Plain) (line : List ℕ) (lines : List (List ℕ)) (texts : List (List (List ℕ))) (p : Pool)
@@ -59,7 +59,7 @@ module _ (acts : Acting) (n log limit : ℕ) (parcel_of : List ℕ → Option Pa
   line_text_is true k v line lines texts p e h settled same next session = ap (λ t. prompt ++ (too_long ++ t)) (same texts session)
   line_text_is false k v line lines [] p e h settled same next session = absurd session
   line_text_is false k v line lines (text ∷ texts) p e h settled same next session =
-      let read = block acts n log limit parcel_of some few k h (omega arith) v con mark line known (fits_line line e) (always_first acts.consoles con mark users v) text p session.0 settled session.1 in
+      let read = block acts n log limit parcel_of some few k h (omega arith) v con mark line known (fits_line line e) (always_first con mark users v) text p session.0 settled session.1 in
       ap (λ t. prompt ++ (t ++ written lines texts)) read.1
       ∙ ap (λ t. prompt ++ ((line_end con n v line).text ++ t)) (next session.0 texts read.0 session.2)
 
@@ -84,7 +84,7 @@ module _ (acts : Acting) (n log limit : ℕ) (parcel_of : List ℕ → Option Pa
   each_behind true k v line lines texts p e f h settled next session = cc
   each_behind false k v line lines [] p e f h settled next session = absurd session
   each_behind false k v line lines (text ∷ texts) p e f h settled next session =
-      let read = block acts n log limit parcel_of some few k h (omega arith) v con mark line known (fits_line line e) (always_first acts.consoles con mark users v) text p session.0 settled session.1 in
+      let read = block acts n log limit parcel_of some few k h (omega arith) v con mark line known (fits_line line e) (always_first con mark users v) text p session.0 settled session.1 in
       ap (λ t. t ∷ map concat texts) read.1
       ∙ ap (λ ts. (line_end con n v line).text ∷ ts) (next session.0 texts read.0 session.2)
 
@@ -103,7 +103,7 @@ module _ (acts : Acting) (n log limit : ℕ) (parcel_of : List ℕ → Option Pa
       → IsFront (prompt ++ concat text) (prompt ++ ((if b then too_long else (line_end con n v line).text) ++ []))
   broken_line true k v line text p e f h settled part = cc
   broken_line false k v line text p e f h settled part =
-      let begun = front acts n log limit parcel_of some few k h (omega arith) v con mark line known (fits_line line e) (always_first acts.consoles con mark users v) text p settled part in
+      let begun = front acts n log limit parcel_of some few k h (omega arith) v con mark line known (fits_line line e) (always_first con mark users v) text p settled part in
       record {
         later = begun.later;
         is = append_assoc prompt (concat text) begun.later ∙ ap (λ t. prompt ++ t) (begun.is ∙ sym (append-nil (line_end con n v line).text));
@@ -123,7 +123,7 @@ module _ (acts : Acting) (n log limit : ℕ) (parcel_of : List ℕ → Option Pa
       front_longer prompt too_long (written lines texts) (prompt ++ concat text) (lines_text con n v (lines ++ line ∷ [])) (same texts session)
   broken_line_behind false k v first lines [] line text p e h settled same next session = absurd session
   broken_line_behind false k v first lines (t ∷ texts) line text p e h settled same next session =
-      let read = block acts n log limit parcel_of some few k h (omega arith) v con mark first known (fits_line first e) (always_first acts.consoles con mark users v) t p session.0 settled session.1 in
+      let read = block acts n log limit parcel_of some few k h (omega arith) v con mark first known (fits_line first e) (always_first con mark users v) t p session.0 settled session.1 in
       let behind = next session.0 texts read.0 session.2 in
       subst (λ x. IsFront ((prompt ++ (concat t ++ written lines texts)) ++ (prompt ++ concat text))
       (prompt ++ (x ++ lines_text con n (line_end con n v first).plain (lines ++ line ∷ [])))) read.1

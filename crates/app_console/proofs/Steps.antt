@@ -43,7 +43,7 @@ use Rattle.app_console.proofs.Namings.{IsWhat}
 use Rattle.app_console.proofs.Seen.{IsFit, desk_seen, names_seen, desk_laid, answered_seen, IsReadBack, desk_read_back}
 use Rattle.app_console.proofs.Named.{names_over, text_over, IsNew, HasNameRoom, taken_fit, what_held, kind_over}
 use Rattle.app_console.proofs.Comings.{times, says, set_of, Coming, pick}
-use Rattle.app_console.proofs.Fit.{at, IsIn, held_over, asked, kept_who, IsGood, IsGoodContent, good_ref, Placed, Fits}
+use Rattle.app_console.proofs.Fit.{at, IsIn, held_over, asked, kept_who, IsGood, Placed, Fits}
 use Rattle.app_console.proofs.Fit as Fit
 use Rattle.app_console.proofs.Slots.{await, times_add}
 use Rattle.app_console.proofs.Called.{IsAlike, IsAnswering, next_of, acted_alike, does_call, slots_after}
@@ -379,9 +379,9 @@ taken acts n here drawn names aw slot v what few low little fit held =
     record {
       out = out;
       out_is =
-          acts.session n here st a c few low shown (ap (λ vs. is_own acts.consoles (SpelledInt (pos slot) ∷ vs)) (one_numbered v))
-          ∙ (ap (Session.session_by acts.consoles n st a) shown
-          ∙ (ap (λ vs. Session.session_args acts.consoles n st a c 3 (SpelledInt (pos slot) ∷ vs)) (one_numbered v)
+          acts.session n here st a c few low shown (ap (λ vs. is_own (SpelledInt (pos slot) ∷ vs)) (one_numbered v))
+          ∙ (ap (Session.session_by n st a) shown
+          ∙ (ap (λ vs. Session.session_args n st a c 3 (SpelledInt (pos slot) ∷ vs)) (one_numbered v)
           ∙ ap (Session.taken st a c slot (one_spelled v)) (ap (Desks.held_at slot) awaits ∙ held)));
       makes = refl;
       sends = refl;

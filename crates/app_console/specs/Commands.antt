@@ -140,7 +140,7 @@ spaced (x ∷ y ∷ xs) = x ++ codes ", " ++ spaced (y ∷ xs)
 abbrev pub shown : List Command → List (List ℕ)
 shown xs = map (λ x. x.shown) xs
 
--- the commands that the top call handles by itself
+-- the commands that a console names, and of which a session has no row: they are for the top call
 abbrev pub handled : Console → List (List ℕ)
 handled Space = codes "hold" ∷ codes "turn" ∷ codes "drain" ∷ codes "audit" ∷ codes "counter" ∷ []
 handled _ = []

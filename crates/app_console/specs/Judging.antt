@@ -7,22 +7,21 @@ use Rattle.hpx_journal.specs.Data.{Parcel}
 use Rattle.hpx_journal.specs.Entries.{Rules}
 use Rattle.hpx_calls.specs.Outcomes.{outcome_of}
 use Rattle.app_console.specs.Session.{console_of, desk_at, session_outcome}
-use Rattle.app_console.specs.Types.{Spelled, SpelledInt, SpelledText, Consoles, Desk, State, Act, Outcome}
+use Rattle.app_console.specs.Types.{Spelled, SpelledInt, SpelledText, Desk, State, Act, Outcome}
 
 -- a line of one of the consoles, or an answer
-abbrev pub is_own : Consoles → List Spelled → Bool
-is_own c (SpelledText (mark ∷ line) ∷ []) = is_some (console_of c mark)
-is_own c (SpelledInt (pos slot) ∷ v ∷ []) = true
-is_own c _ = false
+abbrev pub is_own : List Spelled → Bool
+is_own (SpelledText (mark ∷ line) ∷ []) = is_some (console_of mark)
+is_own (SpelledInt (pos slot) ∷ v ∷ []) = true
+is_own _ = false
 
--- What actions do, at up to 64 localities, where the session reads the lines of these consoles: a session whose state shows a
+-- What actions do, at up to 64 localities: a session whose state shows a
 -- desk does what the consoles' session does, and objects of all other kinds but the plain one, 7, do what such objects do.
 -- Of a session of other lines, and of plain objects, nothing is said but the laws.
 pub record Acting : Type 0 where
-  pub consoles : Consoles
   pub act_of : ℕ → ℕ → ℕ → State → Act → Outcome
-  pub session : (n here : ℕ) (s : State) (a : Act) (d : Desk Spelled) → n ≤ 64 → here < n → desk_at s ≡ Some d → is_own consoles a.args ≡ true
-      → act_of n 1 here s a ≡ session_outcome consoles n s a
+  pub session : (n here : ℕ) (s : State) (a : Act) (d : Desk Spelled) → n ≤ 64 → here < n → desk_at s ≡ Some d → is_own a.args ≡ true
+      → act_of n 1 here s a ≡ session_outcome n s a
   pub others : (n kind here : ℕ) (s : State) (a : Act) → n ≤ 64 → here < n → kind ≢ 1 → kind ≢ 7 → act_of n kind here s a ≡ outcome_of n kind here s a
   pub keeps : (n kind here : ℕ) (s : State) (a : Act) → 1 ≤ n → n ≤ 64 → here < n → IsState s → IsAct a → KeepsLaws n kind here s a (act_of n kind here s a)
   pub blind : (n kind here : ℕ) (s : State) (a : Act) → act_of n kind here s a ≡ act_of n kind here (bare_state s) (named 0 0 (message_of (bare_act a)))

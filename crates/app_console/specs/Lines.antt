@@ -54,7 +54,7 @@ lines_of input = before_quit (lines_in (slice_split is_newline input))
 abbrev pub quits : List ℕ → Bool
 quits input = list_any is_quit (lines_in (slice_split is_newline input))
 
--- the line by which the console has its accumulator made: `open`, after the mark `o`
+-- the line by which the accumulator's console has it made: `open`, after the mark `o`
 abbrev pub opening : List ℕ
 opening = 111 ∷ codes "open"
 

@@ -1,21 +1,16 @@
--- What actions on the session do, and what actions do at all.
-use Rattle.std.specs.Prelude.{ℕ, pos, Bool, nat_lt, nat_le, List, [], ◌∷◌, ◌+◌, ◌==◌, ◌&&◌, Option, Some, None, length, map, if◌then◌else◌}
+-- What actions on the session do, and what actions do on any kind but the plain one.
+use Rattle.std.specs.Prelude.{ℕ, pos, nat_le, List, [], ◌∷◌, ◌+◌, ◌==◌, ◌&&◌, Option, Some, None, length, map, if◌then◌else◌}
 use Rattle.hpx_value.specs.Kept.{stays}
 use Rattle.hpx_value.specs.Hands.{id_at}
 use Rattle.hpx_calls.specs.Values.{Sort, spelled, shifted}
 use Rattle.hpx_calls.specs.Outcomes.{outcome_of}
-use Rattle.app_console.specs.Types.{Spelled, SpelledInt, SpelledText, SpelledRef, SpelledFault, Cont, State, Act, Target, Place, Root, Here, Sending, Outcome, Naming, What, Desk, Consoles, AllConsoles, AccumulatorAlone, Console, Space, AccumulatorConsole, Own, Argument, GivenWord, GivenObject, GivenNumber, Goal, Named, RootAt, Plan, DoesNothing, ShowsHelp, Refuses, GivesUp, Calls}
+use Rattle.app_console.specs.Types.{Spelled, SpelledInt, SpelledText, SpelledRef, SpelledFault, Cont, State, Act, Target, Place, Root, Here, Sending, Outcome, Naming, What, Desk, Console, Space, AccumulatorConsole, Own, Argument, GivenWord, GivenObject, GivenNumber, Goal, Named, RootAt, Plan, DoesNothing, ShowsHelp, Refuses, GivesUp, Calls}
 use Rattle.app_console.specs.Commands.{Sight, help_of, plan_of, refusal_text, answer_text}
 use Rattle.app_console.specs.Desks.{seek, status_in, without, opened, answered, held_at, erased, desk_out, desk_shown}
 
--- whether a line of `space` is read
-abbrev pub space_in : Consoles → Option Console
-space_in AllConsoles = Some Space
-space_in AccumulatorAlone = None
-
 -- the console of a mark: `a` accumulator, `s` space, `o` the top call's own
-abbrev pub console_of : Consoles → ℕ → Option Console
-console_of c mark = if mark == 97 then Some AccumulatorConsole else if mark == 115 then space_in c else if mark == 111 then Some Own else None
+abbrev pub console_of : ℕ → Option Console
+console_of mark = if mark == 97 then Some AccumulatorConsole else if mark == 115 then Some Space else if mark == 111 then Some Own else None
 
 -- no text is not printed
 abbrev pub printed : List ℕ → List (List ℕ)
@@ -92,36 +87,28 @@ taken s a d slot v (Some what) = taken_by s.drawn d slot v what (length s.ids)
 taken s a d slot v None = stays s a (SpelledFault 11)
 
 -- code 4 is LINE, code 3 SET
-abbrev pub session_args : Consoles → ℕ → State → Act → Desk Spelled → ℕ → List Spelled → Outcome
-session_args c n s a d code (SpelledText (mark ∷ line) ∷ []) = if code == 4 then line_of n s a d line (console_of c mark) else stays s a (SpelledFault 11)
-session_args c n s a d code (SpelledInt (pos slot) ∷ v ∷ []) = if code == 3 then taken s a d slot v (held_at slot d.awaits) else stays s a (SpelledFault 11)
-session_args c n s a d code _ = stays s a (SpelledFault 11)
+abbrev pub session_args : ℕ → State → Act → Desk Spelled → ℕ → List Spelled → Outcome
+session_args n s a d code (SpelledText (mark ∷ line) ∷ []) = if code == 4 then line_of n s a d line (console_of mark) else stays s a (SpelledFault 11)
+session_args n s a d code (SpelledInt (pos slot) ∷ v ∷ []) = if code == 3 then taken s a d slot v (held_at slot d.awaits) else stays s a (SpelledFault 11)
+session_args n s a d code _ = stays s a (SpelledFault 11)
 
 -- neither carries a continuation
-abbrev pub session_cont : Consoles → ℕ → State → Act → Desk Spelled → Option Cont → Outcome
-session_cont c n s a d None = session_args c n s a d a.code a.args
-session_cont c n s a d (Some k) = stays s a (SpelledFault 11)
+abbrev pub session_cont : ℕ → State → Act → Desk Spelled → Option Cont → Outcome
+session_cont n s a d None = session_args n s a d a.code a.args
+session_cont n s a d (Some k) = stays s a (SpelledFault 11)
 
 -- the desk that a state shows: it keeps no continuations, and another slot can be drawn
 abbrev pub desk_at : State → Option (Desk Spelled)
 desk_at s = if (length s.conts == 0) && nat_le s.drawn 4000000000 then desk_shown spelled s.values else None
 
-abbrev pub session_by : Consoles → ℕ → State → Act → Option (Desk Spelled) → Outcome
-session_by c n s a (Some d) = session_cont c n s a d a.cont
-session_by c n s a None = stays s a (SpelledFault 11)
+abbrev pub session_by : ℕ → State → Act → Option (Desk Spelled) → Outcome
+session_by n s a (Some d) = session_cont n s a d a.cont
+session_by n s a None = stays s a (SpelledFault 11)
 
 -- what an action on the session does
-unfoldable pub session_outcome : Consoles → ℕ → State → Act → Outcome
-session_outcome c n s a = session_by c n s a (desk_at s)
+unfoldable pub session_outcome : ℕ → State → Act → Outcome
+session_outcome n s a = session_by n s a (desk_at s)
 
--- there are from 1 to 64 localities, and this is one of them
-abbrev pub is_place : ℕ → ℕ → Bool
-is_place n here = nat_lt here n && nat_le n 64
-
--- what an action does on an object of a kind: 1 is the session, and 7, the plain object, has no actions
-abbrev pub outcome_on : Consoles → ℕ → ℕ → ℕ → State → Act → Outcome
-outcome_on c n kind here s a = if kind == 1 then session_outcome c n s a else if kind == 7 then stays s a (SpelledFault 11) else outcome_of n kind here s a
-
--- what any action does at n localities
-unfoldable pub act_of : Consoles → ℕ → ℕ → ℕ → State → Act → Outcome
-act_of c n kind here s a = if is_place n here then outcome_on c n kind here s a else stays s a (SpelledFault 11)
+-- what an action does at n localities, on the session, kind 1, or on an object of any other kind but the plain one, 7
+unfoldable pub act_of : ℕ → ℕ → ℕ → State → Act → Outcome
+act_of n kind here s a = if kind == 1 then session_outcome n s a else outcome_of n kind here s a

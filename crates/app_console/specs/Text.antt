@@ -2,7 +2,7 @@
 use Rattle.std.specs.Prelude.{ℕ, List, [], ◌∷◌, ◌++◌, ◌≡◌, codes, if◌then◌else◌}
 use Rattle.app_console.specs.Console.{prompt}
 use Rattle.app_console.specs.Lines.{is_long, first_of, others_of}
-use Rattle.app_console.specs.Types.{Consoles, AllConsoles, Console, Space, AccumulatorConsole, Own}
+use Rattle.app_console.specs.Types.{Console, Space, AccumulatorConsole, Own}
 use Rattle.app_console.specs.Plain.{Plain, line_end}
 
 -- a line that is not fed is too long
@@ -32,8 +32,8 @@ written (line ∷ lines) texts =
     if is_long line then prompt ++ (too_long ++ written lines texts)
     else prompt ++ (first_of texts ++ written lines (others_of texts))
 
--- a console whose lines a user feeds, and its mark, where such lines are read
-abbrev pub IsUsers : Consoles → Console → ℕ → Type 0
-IsUsers cs Space mark = (cs ≡ AllConsoles) × (mark ≡ 115)
-IsUsers cs AccumulatorConsole mark = mark ≡ 97
-IsUsers cs Own mark = ⊥
+-- a console whose lines a user feeds, and its mark
+abbrev pub IsUsers : Console → ℕ → Type 0
+IsUsers Space mark = mark ≡ 115
+IsUsers AccumulatorConsole mark = mark ≡ 97
+IsUsers Own mark = ⊥

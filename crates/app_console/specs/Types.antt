@@ -12,8 +12,6 @@ pub use Rattle.hpx_value.specs.declared.outcome.Sending.{Sending}
 pub use Rattle.hpx_value.specs.declared.outcome.Outcome.{Outcome}
 pub use Rattle.app_console.specs.declared.table.Console.{Console}
 pub use Rattle.app_console.specs.declared.table.Console.TheVariants.{Space, Accumulator as AccumulatorConsole, Own}
-pub use Rattle.app_console.specs.declared.table.Consoles.{Consoles}
-pub use Rattle.app_console.specs.declared.table.Consoles.TheVariants.{All as AllConsoles, Accumulator as AccumulatorAlone}
 pub use Rattle.app_console.specs.declared.table.Need.{Need}
 pub use Rattle.app_console.specs.declared.table.Need.TheVariants.{NewName, BoundName, AnyName, It, NewIt, Locality, Number, Count}
 pub use Rattle.app_console.specs.declared.table.Receiver.{Receiver}

@@ -2,7 +2,7 @@
 ghost use Rattle.std.specs.Prelude.{◌≡◌, ◌≤◌, ◌<◌, ◌⊎◌, ◌+◌, ◌∷◌, [], Some, IfOk, map, length};
 ghost use Rattle.hpx_calls.specs.Values.{spelled};
 ghost use Rattle.app_console.specs.Desks.{desk_out, held_at};
-ghost use Rattle.app_console.specs.Session.{session_outcome, session_by, line_of, taken, planned, call_to, target_of, given, spoken, space_in, console_of, act_of};
+ghost use Rattle.app_console.specs.Session.{session_outcome, session_by, line_of, taken, planned, call_to, target_of, given, spoken, console_of, act_of};
 
 use crate::desk::{Desk, Naming};
 use crate::keep::{answered, awaiting, take_awaited, values_of, without};
@@ -12,7 +12,7 @@ use crate::plan::{Argument, Goal, Plan};
 use crate::read::desk_at;
 use crate::say::{answer_text, help, printed, refusal_text};
 use crate::stay::refused;
-use crate::table::{Console, Consoles};
+use crate::table::Console;
 use hpx_calls::content::one;
 use hpx_numbers::act::number_act;
 use hpx_value::codes::{LINE, SESSION, SET};
@@ -26,13 +26,11 @@ use std::alloc::Global;
 /// The kind of accumulators.
 pub const ACCUMULATOR_KIND: u32 = 16;
 
-/// The outcome of an action on a session, of kind 1, or on an accumulator, of kind 16, where a session reads the lines of these
-/// consoles. An `Err` is for want of memory, or where a hand has more than 65,535 places or continuations, as none has that is
-/// well formed.
+/// The outcome of an action on a session, of kind 1, or on an accumulator, of kind 16. An `Err` is for want of memory, or
+/// where a hand has more than 65,535 places or continuations, as none has that is well formed.
 #[tactic(auto, unfolding(crate::specs::Session::act_of))]
 pub fn console_act(
     alloc: Global,
-    consoles: Consoles,
     kind: u32,
     here: u32,
     localities: u32,
@@ -42,10 +40,10 @@ pub fn console_act(
     requires kind { (kind ≡ 1) ⊎ (kind ≡ 16) }
     requires here { here < localities }
     requires few { localities ≤ 64 }
-    ensures { IfOk result (λ outcome. outcome ≡ act_of consoles localities kind here state.now action.now) }
+    ensures { IfOk result (λ outcome. outcome ≡ act_of localities kind here state.now action.now) }
 {
     if kind == SESSION {
-        session_act(alloc, consoles, localities, state, action)
+        session_act(alloc, localities, state, action)
     } else {
         number_act(alloc, kind, here, state, action)
     }
@@ -55,15 +53,14 @@ pub fn console_act(
 #[tactic(auto, unfolding(crate::specs::Session::session_outcome))]
 fn session_act(
     alloc: Global,
-    consoles: Consoles,
     localities: u32,
     state: &State,
     action: &Act,
 ) -> Result<Outcome, OutOfMemory>
-    ensures { IfOk result (λ outcome. outcome ≡ session_outcome consoles localities state.now action.now) }
+    ensures { IfOk result (λ outcome. outcome ≡ session_outcome localities state.now action.now) }
 {
     match desk_at(alloc, state)? {
-        Some(desk) => desk_act(alloc, consoles, localities, state, action, desk),
+        Some(desk) => desk_act(alloc, localities, state, action, desk),
         None => refused(alloc, state, action),
     }
 }
@@ -71,23 +68,20 @@ fn session_act(
 /// What an action does where the session keeps this.
 fn desk_act(
     alloc: Global,
-    consoles: Consoles,
     localities: u32,
     state: &State,
     action: &Act,
     desk: Desk<Value>,
 ) -> Result<Outcome, OutOfMemory>
     requires { state.now.drawn ≤ 4000000000 }
-    ensures { IfOk result (λ outcome. outcome ≡ session_by consoles localities state.now action.now (Some desk)) }
+    ensures { IfOk result (λ outcome. outcome ≡ session_by localities state.now action.now (Some desk)) }
 {
     if action.cont.is_some() {
         return refused(alloc, state, action);
     }
     match action.args.as_slice() {
         [Value::Text(text)] if action.code == LINE => match text.as_slice() {
-            [mark, line @ ..] => line_act(
-                alloc, consoles, localities, state, action, desk, *mark, line,
-            ),
+            [mark, line @ ..] => line_act(alloc, localities, state, action, desk, *mark, line),
             [] => refused(alloc, state, action),
         },
         [Value::Int(slot), value] if action.code == SET => match u64::try_from(*slot) {
@@ -98,22 +92,13 @@ fn desk_act(
     }
 }
 
-fn space_in(consoles: Consoles) -> Option<Console>
-    ensures { result ≡ space_in consoles }
-{
-    match consoles {
-        Consoles::All => Some(Console::Space),
-        Consoles::Accumulator => None,
-    }
-}
-
 /// The console of a mark.
-fn console_of(consoles: Consoles, mark: u8) -> Option<Console>
-    ensures { result ≡ console_of consoles mark }
+fn console_of(mark: u8) -> Option<Console>
+    ensures { result ≡ console_of mark }
 {
     match mark {
         ACCUMULATOR => Some(Console::Accumulator),
-        SPACE => space_in(consoles),
+        SPACE => Some(Console::Space),
         b'o' => Some(Console::Own),
         _ => None,
     }
@@ -122,7 +107,6 @@ fn console_of(consoles: Consoles, mark: u8) -> Option<Console>
 /// What a line behind its mark does.
 fn line_act(
     alloc: Global,
-    consoles: Consoles,
     localities: u32,
     state: &State,
     action: &Act,
@@ -131,9 +115,9 @@ fn line_act(
     line: &[u8],
 ) -> Result<Outcome, OutOfMemory>
     requires { state.now.drawn ≤ 4000000000 }
-    ensures { IfOk result (λ outcome. outcome ≡ line_of localities state.now action.now desk line.now (console_of consoles mark)) }
+    ensures { IfOk result (λ outcome. outcome ≡ line_of localities state.now action.now desk line.now (console_of mark)) }
 {
-    let Some(console) = console_of(consoles, mark) else {
+    let Some(console) = console_of(mark) else {
         return refused(alloc, state, action);
     };
     let plan = plan_of(alloc, console, localities, state, &desk, line)?;

@@ -78,7 +78,7 @@ fn are_all_quit(line: &[u8]) -> bool
         .all(|word| word == b"quit".as_slice())
 }
 
-/// The line by which the console has its accumulator made.
+/// The line by which the accumulator's console has it made.
 pub fn opening(alloc: Global) -> Result<Text, OutOfMemory>
     ensures { IfOk result (λ text. text ≡ opening) }
 {

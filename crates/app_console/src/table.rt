@@ -18,14 +18,6 @@ pub enum Console {
     Own,
 }
 
-/// The consoles whose lines a session reads.
-#[derive(Clone, Copy, Debug, PartialEq, Eq)]
-pub enum Consoles {
-    All,
-    /// The accumulator's, and the top call's own lines.
-    Accumulator,
-}
-
 /// What is asked of an argument.
 #[derive(Clone, Copy, Debug, PartialEq, Eq)]
 pub enum Need {

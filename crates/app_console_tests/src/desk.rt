@@ -2,7 +2,6 @@
 ghost use Rattle.std.specs.Prelude.{◌≡◌, ◌⊎◌};
 
 use app_console::act::{ACCUMULATOR_KIND, console_act};
-use app_console::table::Consoles;
 use hpx_value::codes::{ADD, LINE, SESSION, SET};
 use hpx_value::gid::Gid;
 use hpx_value::items::{Items, Text};
@@ -91,7 +90,7 @@ fn action(alloc: Global, code: u16, args: Values) -> Act {
 fn acted(alloc: Global, kind: u32, state: &State, action: &Act) -> Result<Outcome, OutOfMemory>
     requires { (kind ≡ 1) ⊎ (kind ≡ 16) }
 {
-    console_act(alloc, Consoles::All, kind, 1, 2, state, action)
+    console_act(alloc, kind, 1, 2, state, action)
 }
 
 /// What a line behind a mark does.

@@ -9,7 +9,6 @@ use Rattle.hpx_journal.specs.Laws.{HasGrammar}
 use Rattle.hpx_journal.specs.Pool.{NoneFails}
 use Rattle.hpx_journal.specs.Sessions.{IsSession, entries_of, shown}
 use Rattle.app_console.specs.declared.table.Console.TheVariants.{Space}
-use Rattle.app_console.specs.declared.table.Consoles.TheVariants.{All as AllConsoles}
 use Rattle.app_console.specs.Judging.{Acting, judging}
 use Rattle.app_console.specs.Plain.{Plain, at_boot, line_end, texts_of}
 use Rattle.app_console.specs.Text.{marked}
@@ -56,12 +55,12 @@ module _ (start count n : ℕ) where
       subst (λ k. drop (k + count) (making ++ rest) ≡ drop count rest) eight (drop-append-add making rest count)
       ∙ subst (λ k. drop k rest ≡ texts_asked start count n) many (drop-append_seam (texts_made start count n) (texts_asked start count n))
 
-  module _ (acts : Acting) (log limit : ℕ) (parcel_of : List ℕ → Option Parcel) (all : acts.consoles ≡ AllConsoles) (some : 1 ≤ n) (few : n ≤ 64) (short : count ≤ 20000)
+  module _ (acts : Acting) (log limit : ℕ) (parcel_of : List ℕ → Option Parcel) (some : 1 ≤ n) (few : n ≤ 64) (short : count ≤ 20000)
       (blocks : List (List Entry)) (grammar : HasGrammar (judging acts n log limit parcel_of)) (calm : NoneFails (entries_of blocks))
       (session : IsSession (judging acts n log limit parcel_of) [] (marked 115 (session_lines start count n)) blocks) where
     texts : map concat (shown blocks) ≡ making ++ (texts_made start count n ++ texts_asked start count n)
     texts =
-        law_each_line acts n log limit parcel_of some few Space 115 (all, refl) (session_lines start count n) blocks
+        law_each_line acts n log limit parcel_of some few Space 115 refl (session_lines start count n) blocks
         (session_few start count n short) (session_fits start count n some few) grammar calm session
         ∙ parts
 

@@ -8,7 +8,7 @@ use Rattle.hpx_journal.specs.Entries.{Rules}
 use Rattle.hpx_steps.specs.Flows.{IsFlowing}
 use Rattle.hpx_steps.specs.Rest.{ArePlaced, IsOrderly, Lacks, MovesBegan, StandsAtRest, StandsWith}
 use Rattle.hpx_steps.specs.Turn.{at_rest}
-use Rattle.hpx_steps.proofs.Booted.{boot_arrived, boot_bare}
+use Rattle.hpx_steps.proofs.Booted.{boot_arrived, boot_bare, boot_homes}
 
 -- its tables
 abbrev pub at_boot : ℕ → ℕ → Profile → Tables
@@ -40,14 +40,15 @@ pub boot_stands : (act_of : ℕ → ℕ → ℕ → State → Act → Outcome) (
 boot_stands act_of n here profile = search rules
 
 -- and so they stand at rest
-pub boot_at_rest : (r : Rules) (t : Tables) → t.came ≡ [] → StandsWith r t [] [] [] → IsOrderly r t [] → Lacks t → MovesBegan r t [] → ArePlaced r t [] → IsFlowing r (at_rest t) [] → StandsAtRest r t []
-boot_at_rest r t came stands orderly lacks begun placed flowing = record {
+pub boot_at_rest : (r : Rules) (t : Tables) → t.came ≡ [] → t.desk ≡ [] → t.queued ≡ [] → t.stray ≡ [] → StandsWith r t [] [] [] → IsOrderly r t [] → Lacks t → MovesBegan r t [] → ArePlaced r t [] → IsFlowing r (at_rest t) [] → StandsAtRest r t []
+boot_at_rest r t came desk queued stray stands orderly lacks begun placed flowing = record {
   stands = stands;
   orderly = orderly;
   lacks = lacks;
   begun = begun;
   placed = placed;
   flowing = flowing;
+  homes = boot_homes r t [] desk queued stray;
   bare = boot_bare t came;
   arrived = boot_arrived t came;
 }

@@ -6,14 +6,15 @@ use Rattle.hpx_node.proofs.Given.{still}
 use Rattle.hpx_node.proofs.GoesOn.{goes_leads}
 use Rattle.hpx_node.proofs.Paused.{paused_at}
 use Rattle.hpx_node.proofs.ReadyStock.{brings_by}
+use Rattle.hpx_steps.specs.Calls.{lands}
 use Rattle.hpx_node.specs.declared.node.next.Next.TheVariants as nexts
 
--- what follows, what it writes, and that it leads back to rest
+-- what follows, what it writes, and that it leads back to rest, once what waits for an object that landed is released
 pub record IsContinued (r : Rules) (s : Turn) (effects : List Event) (p : Parcel) (t mid t' : Tables) (entries entries' : List Entry) : Type 0 where
   pub more : List Event
   pub continues : Continues p t mid t' more
   pub writes : Writes more mid t' entries entries'
-  pub leads : Leads r s t' (effects ++ more)
+  pub leads : Leads r s (lands p) t' (effects ++ more)
 
 not_both : (a l r : Bool) → (not a && (l && not r)) ≡ true → (l && (a || r)) ≡ true → ⊥
 not_both true l r g h = cc
@@ -122,9 +123,9 @@ module _ (act_of : ℕ → ℕ → ℕ → State → Act → Outcome)
       its_outcome : g.after.outcome ≡ act_of t.localities g.after.job.kind g.after.job.at g.after.job.state (plain g.after.job.action)
       its_outcome = subst (λ (w : Waits). w.outcome ≡ act_of t.localities w.job.kind w.job.at w.job.state (plain w.job.action)) (sym same) ready.right
 
-      done_leads : Leads r s t' (given_event id ∷ committed_from mid g.after.job g.after.outcome (full_stock mid g.after))
+      done_leads : Leads r s None t' (given_event id ∷ committed_from mid g.after.job g.after.outcome (full_stock mid g.after))
       done_leads =
-          subst (λ (m : Tables). Leads r s t' (given_event id ∷ committed_from m g.after.job g.after.outcome (full_stock m g.after))) (sym g.rest)
+          subst (λ (m : Tables). Leads r s None t' (given_event id ∷ committed_from m g.after.job g.after.outcome (full_stock m g.after))) (sym g.rest)
           (goes_leads act_of blind t n d came mailed l mid t' id entry hand credit right g k.tidy y.j y.prepared laws its_outcome
           (none_then act_of t n d mid id entry y ready g)
           (subst (λ (m : Tables). MayResume m g.after y.j y.prepared) g.rest may)
@@ -184,11 +185,11 @@ module _ (act_of : ℕ → ℕ → ℕ → State → Act → Outcome)
             answered = t.answered + answered_by (Some g.after.job.action);
           })) (remove_set t.pending g.i g.after))
 
-      failed_leads : Leads r s t' (given_event id ∷ failed_events mid g.after)
+      failed_leads : Leads r s None t' (given_event id ∷ failed_events mid g.after)
       failed_leads =
           let o = refused t n d mid id entry y is g in
-          subst (λ (m : Tables). Leads r s t' (given_event id ∷ failed_events m g.after)) (sym g.rest)
-          (subst (λ (z : Tables). Leads r s z (given_event id ∷ failed_events u g.after)) (sym end_is)
+          subst (λ (m : Tables). Leads r s None t' (given_event id ∷ failed_events m g.after)) (sym g.rest)
+          (subst (λ (z : Tables). Leads r s None z (given_event id ∷ failed_events u g.after)) (sym end_is)
           (given_fails r u mid came mailed l id entry hand credit right g (given t n d mid id entry y is g)
           (still t g.before g.after id entry (paused_at t g.i g.before k.tidy g.there) g.refills credit (brings_by t id right)).other o.0 y.j is.place.standing (failed_remains g.after) o.1
           is.place.stands (found_then t n d mid id entry y is g)
@@ -212,7 +213,7 @@ module _ (act_of : ℕ → ℕ → ℕ → State → Act → Outcome)
       }
 
     -- the commit waits on
-    waiting_leads : is_last id (find (awaits id entry) t.pending) ≡ false → fails_first id (find (awaits id entry) t.pending) ≡ false → Leads r s mid (given_event id ∷ [])
+    waiting_leads : is_last id (find (awaits id entry) t.pending) ≡ false → fails_first id (find (awaits id entry) t.pending) ≡ false → Leads r s None mid (given_event id ∷ [])
     waiting_leads rest safe =
         let for : awaits id entry g.before ≡ true = any_at (is_asked_for g.before id entry) g.before.asked g.refills.k g.refills.ask g.refills.there g.refills.for in
         let found : find (awaits id entry) t.pending ≡ Some g.before = find_at (awaits id entry) t.pending g.i g.before g.there for g.first in
@@ -222,7 +223,7 @@ module _ (act_of : ℕ → ℕ → ℕ → State → Act → Outcome)
         (ap (λ (w : Waits). length w.asked == 0) g.refills.now ∙ more_left g.before.asked g.refills.k g.refills.ask g.refills.there one)
 
   -- nothing followed
-  rested : (p : Parcel) → completes t p ≡ false → dooms t p ≡ false → t' ≡ mid → entries' ≡ entries → Leads r s mid (effects t p)
+  rested : (p : Parcel) → completes t p ≡ false → dooms t p ≡ false → t' ≡ mid → entries' ≡ entries → Leads r s (lands p) mid (effects t p)
       → IsContinued r s (effects t p) p u mid t' entries entries'
   rested p none safe same still leads = record {
     more = [];
@@ -237,7 +238,7 @@ module _ (act_of : ℕ → ℕ → ℕ → State → Act → Outcome)
       profile = ap (λ (x : Tables). x.profile) same;
       grows = still ∙ sym (append-nil entries);
     };
-    leads = subst (Leads r s t') (sym (append-nil (effects t p))) (subst (λ z. Leads r s z (effects t p)) (sym same) leads);
+    leads = subst (Leads r s (lands p) t') (sym (append-nil (effects t p))) (subst (λ z. Leads r s (lands p) z (effects t p)) (sym same) leads);
   }
     where
       alike : (p : Parcel) → (completes u p ≡ completes t p) × (dooms u p ≡ dooms t p)
@@ -246,13 +247,13 @@ module _ (act_of : ℕ → ℕ → ℕ → State → Act → Outcome)
 
   -- a message that was dealt with: credit that is given, or another
   dealt_leads : (p : Parcel) → HasInHand p (in_hand (record t { taken = n; desk = d }) came mailed l) → IsRight t p → IsGiven p (record t { taken = n; desk = d }) mid
-      → (((id : Id) (entry : ℕ) → p ≡ Give id entry → ⊥) → Leads r s mid (effects t p)) → completes t p ≡ false → dooms t p ≡ false → Leads r s mid (effects t p)
+      → (((id : Id) (entry : ℕ) → p ≡ Give id entry → ⊥) → Leads r s (lands p) mid (effects t p)) → completes t p ≡ false → dooms t p ≡ false → Leads r s (lands p) mid (effects t p)
   dealt_leads (Give id entry) hand k gives other rest safe = waiting_leads id entry hand k (gives id entry refl) rest safe
   dealt_leads _ hand k gives other rest safe = other (λ id entry e. absurd (cc))
 
   pub is_continued : (p : Parcel) (x : Next) → IsNext act_of t p x → HasInHand p (in_hand (record t { taken = n; desk = d }) came mailed l) → IsRight t p
       → IsGiven p (record t { taken = n; desk = d }) mid
-      → (((id : Id) (entry : ℕ) → p ≡ Give id entry → ⊥) → Leads (rules_of act_of t.localities t.profile) (in_hand (record t { taken = n; desk = d }) came mailed l) mid (effects t p))
+      → (((id : Id) (entry : ℕ) → p ≡ Give id entry → ⊥) → Leads (rules_of act_of t.localities t.profile) (in_hand (record t { taken = n; desk = d }) came mailed l) (lands p) mid (effects t p))
       → t'.running ≡ mid.running → HasFollowed x mid t' entries entries'
       → IsContinued (rules_of act_of t.localities t.profile) (in_hand (record t { taken = n; desk = d }) came mailed l) (effects t p) p (record t { taken = n; desk = d }) mid t' entries entries'
   is_continued p nexts.Rests is hand k gives other running followed =

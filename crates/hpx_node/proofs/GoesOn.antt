@@ -100,10 +100,10 @@ module _ (act_of : ℕ → ℕ → ℕ → State → Act → Outcome)
   abbrev last : List Event
   last = rider_events t.profile.credit_log (state_dealt u (seen w.job) w.outcome s).ids (rider_of w.job.action) ++ ups (unnamed s.hand s.places)
 
-  leads : Leads r (in_hand u came mailed l) t' (given_event id ∷ ((births_of t.here t.births (map birth_of w.outcome.makes) ++ splits_from 0 s.hand s.places)
+  leads : Leads r (in_hand u came mailed l) None t' (given_event id ∷ ((births_of t.here t.births (map birth_of w.outcome.makes) ++ splits_from 0 s.hand s.places)
       ++ (Done (name_of w.job.action) false ∷ (due ++ last))))
   leads =
-      subst (λ z. Leads r (in_hand u came mailed l) z (given_event id ∷ ((births_of t.here t.births (map birth_of w.outcome.makes) ++ splits_from 0 s.hand s.places)
+      subst (λ z. Leads r (in_hand u came mailed l) None z (given_event id ∷ ((births_of t.here t.births (map birth_of w.outcome.makes) ++ splits_from 0 s.hand s.places)
       ++ (Done (name_of w.job.action) false ∷ (due ++ last))))) (sym end_is)
       (given_done r u mid came mailed l id entry hand credit right g none k.other front later back w.places hand_is later_bare
       (omega (arith, many, enough, length-take (length made) (drop own w.hand), length-drop own w.hand))
@@ -111,10 +111,10 @@ module _ (act_of : ℕ → ℕ → ℕ → State → Act → Outcome)
       its_stock.names.within (λ q lt. its_stock.lasts q) may.place.stands may.place.found tidy.drawn
       (left_by m w.job w.outcome (fit_seen w.job k.its.job) may.place.few laws s its_stock x may.place.kept may.place.kind may.place.state act_of blind its_outcome k.its.here))
 
-  pub goes_leads : Leads r (in_hand u came mailed l) t' (given_event id ∷ committed_from u w.job w.outcome (full_stock u w))
+  pub goes_leads : Leads r (in_hand u came mailed l) None t' (given_event id ∷ committed_from u w.job w.outcome (full_stock u w))
   goes_leads =
-      subst (λ k. Leads r (in_hand u came mailed l) t' (given_event id ∷ committed_from u w.job w.outcome k)) (sym stock_is)
-      (subst (λ es. Leads r (in_hand u came mailed l) t' (given_event id ∷ es)) same leads)
+      subst (λ k. Leads r (in_hand u came mailed l) None t' (given_event id ∷ committed_from u w.job w.outcome k)) (sym stock_is)
+      (subst (λ es. Leads r (in_hand u came mailed l) None t' (given_event id ∷ es)) same leads)
     where
       same : (births_of t.here t.births (map birth_of w.outcome.makes) ++ splits_from 0 s.hand s.places)
           ++ (Done (name_of w.job.action) false ∷ (due ++ last)) ≡ committed_from u w.job w.outcome s

@@ -36,6 +36,7 @@ pub mod Queued
 pub mod ReadyStock
 pub mod Records
 pub mod Released
+pub mod Emptied
 pub mod Resumed
 pub mod Riding
 pub mod Right

@@ -12,6 +12,7 @@ use Rattle.hpx_steps.proofs.ByRows.{if_so}
 use Rattle.hpx_steps.proofs.Changes.{found_among}
 use Rattle.hpx_steps.specs.Calls.{act_in, released_by, with_released}
 use Rattle.hpx_steps.specs.Items.{Queued}
+use Rattle.hpx_steps.specs.Rest.{StandsBut}
 use Rattle.hpx_steps.specs.Sound.{IsWaitingFor}
 use Rattle.hpx_steps.specs.Ways.{with_act}
 use Rattle.hpx_node.proofs.Common.{Accepts, Act, DealsWith, Entry, Event, Id, IfFollows, IfSome, IsNext, Locality, Next, Outcome, Parcel, Stands, State, Tables, Writes, released_stands}
@@ -59,26 +60,23 @@ still_moves : (x : Option Record) → option_map_or (λ (r : Record). not (is_so
 still_moves None h = cc
 still_moves (Some r) h = if_so (is_some r.moving) (λ m. absurd (let k = rw m at h in cc)) (λ m. m)
 
-pub one_stands : (act_of : ℕ → ℕ → ℕ → State → Act → Outcome) (o : Id) (t : Tables) (entries : List Entry) (w : Waiting Parcel) → is_still t o ≡ true
-    → find (is_for o.number) t.queued ≡ Some w → Stands act_of t entries → Stands act_of (one_goes o t w) entries
-one_stands act_of o t entries w still found h =
+pub one_stands : (act_of : ℕ → ℕ → ℕ → State → Act → Outcome) (landed : Option Id) (o : Id) (t : Tables) (entries : List Entry) (w : Waiting Parcel) → is_still t o ≡ true
+    → find (is_for o.number) t.queued ≡ Some w → StandsBut landed act_of t entries → StandsBut landed act_of (one_goes o t w) entries
+one_stands act_of landed o t entries w still found h =
     let k : is_some (moving_here t o) ≡ false = still_moves (record_here t o) still in
-    let s : Stands act_of (with_released 1 o t) entries = released_stands act_of 1 o t entries h in
+    let s : StandsBut landed act_of (with_released 1 o t) entries = released_stands act_of landed 1 o t entries h in
     rw (k, found) at s
 
-releases_stands : (act_of : ℕ → ℕ → ℕ → State → Act → Outcome) (n : ℕ) (o : Id) (t : Tables) (entries : List Entry) → Stands act_of t entries → Stands act_of (releases n o t) entries
-releases_stands act_of zero o t entries h = h
-releases_stands act_of (suc n) o t entries h =
-    if_so (is_still t o) (λ s. rw s (each (λ u k. releases_stands act_of n o u entries k) s (find (is_for o.number) t.queued) refl)) (λ s. rw s h)
+pub releases_stands : (act_of : ℕ → ℕ → ℕ → State → Act → Outcome) (landed : Option Id) (n : ℕ) (o : Id) (t : Tables) (entries : List Entry) → StandsBut landed act_of t entries
+    → StandsBut landed act_of (releases n o t) entries
+releases_stands act_of landed zero o t entries h = h
+releases_stands act_of landed (suc n) o t entries h =
+    if_so (is_still t o) (λ s. rw s (each (λ u k. releases_stands act_of landed n o u entries k) s (find (is_for o.number) t.queued) refl)) (λ s. rw s h)
   where
-    each : ((u : Tables) → Stands act_of u entries → Stands act_of (releases n o u) entries) → is_still t o ≡ true → (w : Option (Waiting Parcel))
-        → find (is_for o.number) t.queued ≡ w → Stands act_of (released_by t o (releases n o) w) entries
+    each : ((u : Tables) → StandsBut landed act_of u entries → StandsBut landed act_of (releases n o u) entries) → is_still t o ≡ true → (w : Option (Waiting Parcel))
+        → find (is_for o.number) t.queued ≡ w → StandsBut landed act_of (released_by t o (releases n o) w) entries
     each more s None e = h
-    each more s (Some w) e = more (one_goes o t w) (one_stands act_of o t entries w s e h)
-
-pub went_stands : (act_of : ℕ → ℕ → ℕ → State → Act → Outcome) (o : Option Id) (t u : Tables) (entries : List Entry) → u ≡ goes_on o t → Stands act_of t entries → Stands act_of u entries
-went_stands act_of None t u entries e h = subst (λ v. Stands act_of v entries) (sym e) h
-went_stands act_of (Some o) t u entries e h = subst (λ v. Stands act_of v entries) (sym e) (releases_stands act_of _ o t entries h)
+    each more s (Some w) e = more (one_goes o t w) (one_stands act_of landed o t entries w s e h)
 
 -- ---- what the loop does
 
@@ -123,9 +121,9 @@ pub goes_one : (n i : ℕ) (o : Id) (t : Tables) (w : Waiting Parcel) → i < n 
 goes_one n i o t w lt s found = let m = one_left n i lt in rw (m.1, m.2, s, found) refl
 
 -- what waits is an action
-pub waits_act : (act_of : ℕ → ℕ → ℕ → State → Act → Outcome) (o : Id) (t : Tables) (entries : List Entry) (w : Waiting Parcel) → find (is_for o.number) t.queued ≡ Some w
-    → Stands act_of t entries → (w.item ≡ Apply (act_in w.item)) ⊎ (w.item ≡ Move (act_in w.item))
-waits_act act_of o t entries w found h = its w.item (h.tidy (Queued w) (found_among (is_for o.number) t.queued w found)).1
+pub waits_act : (act_of : ℕ → ℕ → ℕ → State → Act → Outcome) (landed : Option Id) (o : Id) (t : Tables) (entries : List Entry) (w : Waiting Parcel) → find (is_for o.number) t.queued ≡ Some w
+    → StandsBut landed act_of t entries → (w.item ≡ Apply (act_in w.item)) ⊎ (w.item ≡ Move (act_in w.item))
+waits_act act_of landed o t entries w found h = its w.item (h.tidy (Queued w) (found_among (is_for o.number) t.queued w found)).1
   where
     its : (p : Parcel) → IsWaitingFor t.here w.number p → (p ≡ Apply (act_in p)) ⊎ (p ≡ Move (act_in p))
     its (Apply act) k = inl refl
@@ -134,10 +132,10 @@ waits_act act_of o t entries w found h = its w.item (h.tidy (Queued w) (found_am
 
 -- one that was released is sent on its way; what is left goes on
 pub keeps_on : (act_of : ℕ → ℕ → ℕ → State → Act → Outcome) (n i : ℕ) (o : Id) (v l : Locality) → v ≡ l → (u fn : Tables) (letter : Parcel) (act : Act)
-    (waiting : List (Waiting Parcel)) (births : ℕ) (records : List Record) → i < n → is_still l.tables o ≡ true → ((entries : List Entry) × Stands act_of l.tables entries)
+    (waiting : List (Waiting Parcel)) (births : ℕ) (records : List Record) → i < n → is_still l.tables o ≡ true → ((landed : Option Id) × (entries : List Entry) × StandsBut landed act_of l.tables entries)
     → releases (n - i) o l.tables ≡ fn → find (is_for o.number) v.tables.queued ≡ Some (waits o.number letter)
     → u ≡ with_act act (record v.tables { queued = waiting; births = births; records = records }) → waiting ≡ without_first o.number v.tables.queued
-    → births ≡ v.tables.births → records ≡ v.tables.records → act_in letter ≡ act → ((entries : List Entry) × Stands act_of u entries) × (releases (n - (i + 1)) o u ≡ fn)
+    → births ≡ v.tables.births → records ≡ v.tables.records → act_in letter ≡ act → ((landed : Option Id) × (entries : List Entry) × StandsBut landed act_of u entries) × (releases (n - (i + 1)) o u ≡ fn)
 keeps_on act_of n i o v l view u fn letter act waiting births records lt still stands goes found e all be re is =
     let t : Tables = l.tables in
     let w : Waiting Parcel = waits o.number letter in
@@ -149,7 +147,7 @@ keeps_on act_of n i o v l view u fn letter act waiting births records lt still s
     ∙ (ap (λ r. with_act act (record v.tables { queued = without_first o.number v.tables.queued; births = v.tables.births; records = r })) re
     ∙ ap (λ a. with_act a (record v.tables { queued = without_first o.number v.tables.queued })) (sym is)))) in
     let gone : u ≡ one_goes o t w = subst (λ (x : Locality). u ≡ one_goes o x.tables w) view now in (
-      (stands.0, subst (λ x. Stands act_of x stands.0) (sym gone) (one_stands act_of o t stands.0 w still first stands.1)),
+      (stands.0, stands.1, subst (λ x. StandsBut stands.0 act_of x stands.1) (sym gone) (one_stands act_of stands.0 o t stands.1 w still first stands.2)),
       subst (λ x. releases (n - (i + 1)) o x ≡ fn) (sym gone) (rw next (goes_one n i o t w lt still first ∙ goes)),
     )
 

@@ -1,6 +1,8 @@
 -- A message is taken up, dealt with, and what follows it is done: all that holds goes on to hold.
 use Rattle.hpx_node.proofs.Common.{Accepts, Act, AllByRecursion, Book, Broken, DealsWith, Entry, HasFollowed, HasRoom, In, IsNext, IsParcel, IsTidy, Leaves, List, Mail, MayFollow, Next, None, OnlySpare, Option, Outcome, Parcel, Some, Stands, StandsAtRest, State, Tables, Writes, [], ap, arith, bare_act, bare_state, broken, desk_leads, desk_stands, effects, frame_leads, frame_stands, get_or, in_hand, inl, inr, kind_of, message_of, named, near_right, parcel_of, refl, rest_stands, rules_of, subst, sym, ℕ, ◌++◌, ◌+◌, ◌<◌, ◌^◌, ◌∙◌, ◌∷◌, ◌≡◌, ◌≤◌}
 use Rattle.hpx_node.proofs.Messages.{messages_first}
+use Rattle.hpx_steps.specs.Calls.{lands}
+use Rattle.hpx_steps.specs.Rest.{StandsBut}
 use Rattle.hpx_node.specs.Behind.{landed_in, goes_on}
 use Rattle.hpx_node.specs.Handled.{Clears, Takes}
 use Rattle.hpx_node.proofs.Arrived.{accepts_rest, deals_rest, ins_few, leaves_from, only}
@@ -85,8 +87,8 @@ module _ (act_of : ℕ → ℕ → ℕ → State → Act → Outcome) (t s mid :
     wrote = took_writes t s mid t' b n p bytes frame entries later behind.more same copy writes behind.writes
 
     -- before what waited goes on
-    pub frame_done : Stands act_of t' later
-    frame_done = subst (Stands act_of t') (sym wrote.grows)
+    pub frame_done : StandsBut (lands p) act_of t' later
+    frame_done = subst (StandsBut (lands p) act_of t') (sym wrote.grows)
         (frame_stands act_of t t' b.entries h lasts p frame (effects t p ++ behind.more) spelled fit behind.leads)
 
     pub frame_takes : (u : Tables) → u ≡ goes_on (landed_in p) t' → Takes frame t u b.entries later
@@ -154,8 +156,8 @@ module _ (act_of : ℕ → ℕ → ℕ → State → Act → Outcome) (t m mid :
     desk_wrote = cleared_writes t m mid t' b n p rest entries later desk_behind.more same writes desk_behind.writes
 
     -- before what waited goes on
-    pub desk_done : Stands act_of t' later
-    desk_done = subst (Stands act_of t') (sym desk_wrote.grows) (desk_stands act_of t t' b.entries h lasts p rest (effects t p ++ desk_behind.more) first_is desk_behind.leads)
+    pub desk_done : StandsBut (lands p) act_of t' later
+    desk_done = subst (StandsBut (lands p) act_of t') (sym desk_wrote.grows) (desk_stands act_of t t' b.entries h lasts p rest (effects t p ++ desk_behind.more) first_is desk_behind.leads)
 
     pub desk_clears : (u : Tables) → u ≡ goes_on (landed_in p) t' → Clears t u b.entries later
     desk_clears u last =

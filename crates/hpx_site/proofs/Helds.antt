@@ -2,7 +2,6 @@
 use Rattle.std.proofs.Common.{ℕ, ◌≡◌, ◌∙◌, Option, Some, None, Result, Ok, Err, IfSome, IfErr, is_some, false, length, refl, sym, subst, ap₂}
 use Rattle.hpx_value.specs.declared.acts.Acts.{Ghosts}
 use Rattle.std.specs.Result.{result_err}
-use Rattle.hpx_journal.specs.Entries.{Rules}
 use Rattle.hpx_journal.specs.Weights.{HasRoom}
 use Rattle.hpx_ports.specs.Faults.{Rose}
 use Rattle.hpx_steps.specs.Rest.{rules_of}
@@ -11,7 +10,7 @@ use Rattle.hpx_world.specs.declared.turns.WorldFault.TheVariants as faults
 use Rattle.hpx_world.specs.Away.{IsCarrying}
 use Rattle.hpx_world.specs.Places.{Places, rules_in}
 use Rattle.hpx_world.specs.declared.turns.Choice.{Choice}
-use Rattle.hpx_world.specs.Refusals.{CountsFaults, CanCome, CanComeOfSteps, FeedsNoLine, Refused, RefusedDrain}
+use Rattle.hpx_world.specs.Refusals.{CountsFaults, CanCome, FeedsNoLine, Refused, RefusedDrain}
 use Rattle.hpx_world.specs.Sound.{Meaning}
 use Rattle.hpx_world.specs.Stages.{Stage}
 use Rattle.hpx_world.specs.Steps.{IsIdle, IsUnfed}
@@ -53,16 +52,6 @@ counts_still (faults.EarlyEnd s t) old new c calm = c
 counts_still (faults.OutOfMemory job_back) old new c calm = c
 counts_still (faults.NotRun job) old new c calm = c
 
--- what can come of a turn can come of steps
-comes_of_steps : {A : Type 0} {g : Ghosts A} (r : Rules) (f : WorldFault A g) → CanCome r f → CanComeOfSteps r f
-comes_of_steps r faults.Fabric c = tt
-comes_of_steps r (faults.JournalFull e w job_back) c = tt
-comes_of_steps r (faults.BadFrame to place why) c = absurd c
-comes_of_steps r (faults.Strange to rule object kept) c = c
-comes_of_steps r (faults.EarlyEnd s t) c = absurd c
-comes_of_steps r (faults.OutOfMemory job_back) c = tt
-comes_of_steps r (faults.NotRun job) c = tt
-
 -- what a call on the world tells, refused or not
 pub record Went (act_of : Meaning) (x z : Seen) : Type 0 where
   pub localities : length z.world.nodes ≡ length x.world.nodes
@@ -71,7 +60,7 @@ pub record Went (act_of : Meaning) (x z : Seen) : Type 0 where
   pub carrying : Carries act_of x → IsCarrying (rules_in act_of x.world) z.world.hand z.flight z.trace z.world.journal.entries
 
 module _ {A : Type 0} {g : Ghosts A} (act_of : Meaning) (was x z : Seen) (stop : Option (WorldFault A g)) (going : is_some stop ≡ false) (h : Held act_of was x stop) (w : Went act_of x z) where
-  on : (stop' : Option (WorldFault A g)) → (IsCalm stop' → z.faults ≡ x.faults) → IfSome stop' (IsCause was z) → IfSome stop' (LeavesRoom z) → (Carries act_of x → IfSome stop' (CanComeOfSteps (rules_in act_of x.world))) → Held act_of was z stop'
+  on : (stop' : Option (WorldFault A g)) → (IsCalm stop' → z.faults ≡ x.faults) → IfSome stop' (IsCause was z) → IfSome stop' (LeavesRoom z) → (Carries act_of x → IfSome stop' (CanCome (rules_in act_of x.world))) → Held act_of was z stop'
   on stop' still cause room never = record {
     localities = w.localities ∙ h.localities;
     profile = w.profile ∙ h.profile;
@@ -80,25 +69,25 @@ module _ {A : Type 0} {g : Ghosts A} (act_of : Meaning) (was x z : Seen) (stop :
     still = λ q. still q ∙ h.still (calm stop going);
     cause = cause;
     room = room;
-    never = λ c. subst (λ r. IfSome stop' (CanComeOfSteps r)) (same_rules act_of x.world was.world h.localities h.profile) (never (h.carrying c));
+    never = λ c. subst (λ r. IfSome stop' (CanCome r)) (same_rules act_of x.world was.world h.localities h.profile) (never (h.carrying c));
   }
 
   -- it was not refused
   pub goes_on : z.faults ≡ x.faults → Held act_of was z stop
-  goes_on same = on stop (λ q. same) (no_stop (IsCause was z) stop going) (no_stop (LeavesRoom z) stop going) (λ c. no_stop (CanComeOfSteps (rules_in act_of x.world)) stop going)
+  goes_on same = on stop (λ q. same) (no_stop (IsCause was z) stop going) (no_stop (LeavesRoom z) stop going) (λ c. no_stop (CanCome (rules_in act_of x.world)) stop going)
 
   -- it was refused
-  stands_still : (f : WorldFault A g) → CountsFaults {T = ℕ} (Err f) x.faults z.faults → IsCause x z f → LeavesRoom z f → (Carries act_of x → CanComeOfSteps (rules_in act_of x.world) f)
+  stands_still : (f : WorldFault A g) → CountsFaults {T = ℕ} (Err f) x.faults z.faults → IsCause x z f → LeavesRoom z f → (Carries act_of x → CanCome (rules_in act_of x.world) f)
       → Held act_of was z (Some f)
   stands_still f counts cause room never = on (Some f) (counts_still f x.faults z.faults counts) (since was x z (h.still (calm stop going)) f cause) room never
 
   -- a turn was refused
   pub turn_stops : (c : Choice A g) → FeedsNoLine c → (f : WorldFault A g) → Refused c f (stage_of x) (stage_of z) → CountsFaults {T = ℕ} (Err f) x.faults z.faults → (Carries act_of x → CanCome (rules_in act_of x.world) f)
       → Held act_of was z (Some f)
-  turn_stops c fed f refused counts never = stands_still f counts (turn_cause x z c fed f refused counts) (turn_room z x c f refused) (λ q. comes_of_steps (rules_in act_of x.world) f (never q))
+  turn_stops c fed f refused counts never = stands_still f counts (turn_cause x z c fed f refused counts) (turn_room z x c f refused) never
 
   -- steps were refused
-  pub steps_stop : (f : WorldFault A g) → RefusedDrain act_of f (stage_of x) (stage_of z) → CountsFaults {T = ℕ} (Err f) x.faults z.faults → (Carries act_of x → CanComeOfSteps (rules_in act_of x.world) f)
+  pub steps_stop : (f : WorldFault A g) → RefusedDrain act_of f (stage_of x) (stage_of z) → CountsFaults {T = ℕ} (Err f) x.faults z.faults → (Carries act_of x → CanCome (rules_in act_of x.world) f)
       → Held act_of was z (Some f)
   steps_stop f refused counts never = stands_still f counts (steps_cause x z act_of f refused counts) (steps_room z act_of (stage_of x) f refused) never
 
@@ -118,7 +107,7 @@ held_first {A} {g} act_of was x e = subst (λ (y : Seen). Held {A = A} {g = g} a
 -- steps, refused or not, of a site that goes on
 pub drained : {A : Type 0} {g : Ghosts A} (act_of : Meaning) (was x z : Seen) → Held {A = A} {g = g} act_of was x None → Went act_of x z
     → (r : Result (Unit {0}) (WorldFault A g)) → CountsFaults r x.faults z.faults → IfErr r (λ f. RefusedDrain act_of f (stage_of x) (stage_of z))
-    → (Carries act_of x → IfErr r (CanComeOfSteps (rules_in act_of x.world))) → Held act_of was z (result_err r)
+    → (Carries act_of x → IfErr r (CanCome (rules_in act_of x.world))) → Held act_of was z (result_err r)
 drained act_of was x z h w (Ok u) counts stops never = goes_on act_of was x z None refl h w counts
 drained act_of was x z h w (Err f) counts stops never = steps_stop act_of was x z None refl h w f stops counts never
 

@@ -11,7 +11,7 @@ use Rattle.hpx_world.specs.declared.turns.WorldFault.{WorldFault}
 use Rattle.hpx_world.specs.declared.turns.WorldFault.TheVariants as faults
 use Rattle.hpx_world.specs.Places.{rules_in}
 use Rattle.hpx_world.specs.Quiet.{IsQuiet}
-use Rattle.hpx_world.specs.Refusals.{IsFull, CanComeOfSteps}
+use Rattle.hpx_world.specs.Refusals.{IsFull, CanCome}
 use Rattle.hpx_world.specs.Sound.{Meaning}
 use Rattle.hpx_world.specs.Steps.{IsUnfed}
 use Rattle.hpx_world.specs.Turns.{HasToFire, HasToSend, HasToTend, HoldsBadFrame, HoldsRightFrame, HoldsStrangeFrame, IsStrangeMail}
@@ -72,4 +72,4 @@ pub record Held {A : Type 0} {g : Ghosts A} (act_of : Meaning) (was is : Seen) (
   pub still : IsCalm stop → is.faults ≡ was.faults
   pub cause : IfSome stop (IsCause was is)
   pub room : IfSome stop (LeavesRoom is)
-  pub never : Carries act_of was → IfSome stop (CanComeOfSteps (rules_in act_of was.world))
+  pub never : Carries act_of was → IfSome stop (CanCome (rules_in act_of was.world))

@@ -9,5 +9,4 @@ mod pool;
 mod running;
 #[cfg(test)]
 mod space;
-pub mod space_acts;
 pub mod worlds;

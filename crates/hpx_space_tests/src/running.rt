@@ -1,10 +1,10 @@
 //! A console over a world, and when its lines are fed.
-use crate::space_acts::SpaceActs;
 use crate::worlds::{drain, feed, printed};
 use app_console::lines::{is_long, marked};
 use hpx_journal::entry::Event;
 use hpx_ports::memory_fabric::SureFabric;
 use hpx_ports::order::Order;
+use hpx_top::acts::AllActs;
 use hpx_value::memory::OutOfMemory;
 use hpx_value::profile::Profile;
 use hpx_world::world::World;
@@ -22,7 +22,7 @@ pub enum Pace {
 /// A world, and the fabric below it.
 #[derive(Drop)]
 pub struct Running {
-    pub world: World<SpaceActs>,
+    pub world: World<AllActs>,
     fabric: SureFabric,
     pace: Pace,
 }
@@ -39,7 +39,7 @@ impl Running {
             return Err(OutOfMemory);
         }
         Ok(Running {
-            world: World::boot(alloc, SpaceActs { localities }, profile)?,
+            world: World::boot(alloc, AllActs { localities }, profile)?,
             fabric: SureFabric::new(alloc, order),
             pace,
         })

@@ -1,5 +1,6 @@
 -- Where nothing is on its way, nothing waits and there is no record, no move has begun.
-use Rattle.hpx_steps.proofs.Common.{Among, Apply, ArePlaced, Id, IsFlowing, MovesBegan, None, Record, Rules, Some, Tables, [], ap, arith, at_rest, false, find_record, flow, flow_of, inr, leads_on, OnDesk, Going, Leaving, Stray, Brought, ◌∷◌, option_map_or, is_away, record_moves, record_rests, refl, subst, sum_by, sym, true, ◌≡◌, ◌≤◌, Outgoing, List, AllByRecursion, grants_of_all, target_of, act_in, Waiting, Parcel, Shipped, EndsAt, Flow, weigh, ◌+◌, ◌==◌, Arrival, brought, moved_by}
+use Rattle.hpx_steps.proofs.Common.{AllByRecursion, Among, Apply, ArePlaced, Arrival, Brought, EndsAt, Entry, Flow, Going, Id, IsFlowing, Leaving, List, MovesBegan, None, OnDesk, Outgoing, Parcel, Record, Rules, Shipped, Some, Stray, Tables, Waiting, [], act_in, ap, arith, at_rest, brought, false, find_record, flow, flow_of, grants_of_all, inl, inr, is_away, leads_on, moved_by, option_map_or, record_moves, record_rests, refl, subst, sum_by, sym, target_of, true, weigh, ◌+◌, ◌==◌, ◌∷◌, ◌≡◌, ◌≤◌, ◌⊎◌}
+use Rattle.hpx_steps.specs.Homes.{HasHomes}
 use Rattle.hpx_steps.proofs.Tools.{by_flows, zeros, bound_none}
 
 no_record : (rs : List Record) (o : Id) (x : Record) → rs ≡ [] → find_record o rs ≡ Some x → ⊥
@@ -46,6 +47,18 @@ boot_flowing r t records desk outgoing queued leaving stray came = record {
       zeros t.pending,
       zeros t.objects,
     )
+
+-- and nothing waits for a place
+pub boot_homes : (r : Rules) (t : Tables) (entries : List Entry) → t.desk ≡ [] → t.queued ≡ [] → t.stray ≡ [] → HasHomes r (at_rest t) entries
+boot_homes r t entries desk queued stray = record {
+  waits = λ w m. absurd (subst (Among w) queued m);
+  own = λ p act brings m. absurd (none p m);
+}
+  where
+    none : (p : Parcel) → Among p [] ⊎ (Among p t.desk ⊎ Among p t.stray) → ⊥
+    none p (inl m) = m
+    none p (inr (inl m)) = subst (Among p) desk m
+    none p (inr (inr m)) = subst (Among p) stray m
 
 -- and no object came
 pub boot_arrived : (t : Tables) → t.came ≡ [] → (a : Arrival) → weigh (brought a) (at_rest t) ≤ weigh (moved_by a) (at_rest t)

@@ -66,20 +66,20 @@ due_steps r s (PrintDue bytes ∷ due) fresh =
 
 -- ---- a message in hand is dealt with
 
--- one step after another leads to these tables, with no message in hand, and writes these entries
-pub record Leads (r : Rules) (s : Turn) (t' : Tables) (events : List Event) : Type 0 where
+-- one step after another leads to these tables, with no message in hand, while what waits for this object is to be released, and writes these entries
+pub record Leads (r : Rules) (s : Turn) (landed : Option Id) (t' : Tables) (events : List Event) : Type 0 where
   pub last : Option Event
   pub labels : List Label
   pub writes : written labels ≡ events
-  pub steps : Steps r s labels (record (drops s) { tables = t'; last = last })
+  pub steps : Steps r s labels (record (drops s) { tables = t'; landed = landed; last = last })
 
 -- by one entry
-pub one_leads : (r : Rules) (s : Turn) (t' : Tables) (e : Event) → Step r s (Writes e) (record (drops s) { tables = t'; last = Some e }) → Leads r s t' (e ∷ [])
-one_leads r s t' e step = record { last = Some e; labels = Writes e ∷ []; writes = refl; steps = (record (drops s) { tables = t'; last = Some e }, step, refl) }
+pub one_leads : (r : Rules) (s : Turn) (landed : Option Id) (t' : Tables) (e : Event) → Step r s (Writes e) (record (drops s) { tables = t'; landed = landed; last = Some e }) → Leads r s landed t' (e ∷ [])
+one_leads r s landed t' e step = record { last = Some e; labels = Writes e ∷ []; writes = refl; steps = (record (drops s) { tables = t'; landed = landed; last = Some e }, step, refl) }
 
 module _ (r : Rules) (s : Turn) (calm : IsCalm s) (t' : Tables) where
   -- an action in hand goes its way
-  place_leads : (act : Act) (p : Parcel) → (p ≡ Apply act) ⊎ (p ≡ Move act) → HasInHand p s → (s.mailed ≢ [] → way s.tables act ≡ Accept) → t' ≡ with_act act s.tables → Leads r s t' []
+  place_leads : (act : Act) (p : Parcel) → (p ≡ Apply act) ⊎ (p ≡ Move act) → HasInHand p s → (s.mailed ≢ [] → way s.tables act ≡ Accept) → t' ≡ with_act act s.tables → Leads r s s.landed t' []
   place_leads act p carries hand stays is = record {
     last = s.last;
     labels = Place ∷ [];
@@ -88,13 +88,13 @@ module _ (r : Rules) (s : Turn) (calm : IsCalm s) (t' : Tables) where
   }
 
   -- from a frame
-  pub act_leads : (act : Act) (p : Parcel) → (p ≡ Apply act) ⊎ (p ≡ Move act) → HasInHand p s → s.mailed ≡ [] → t' ≡ with_act act s.tables → Leads r s t' []
+  pub act_leads : (act : Act) (p : Parcel) → (p ≡ Apply act) ⊎ (p ≡ Move act) → HasInHand p s → s.mailed ≡ [] → t' ≡ with_act act s.tables → Leads r s s.landed t' []
   act_leads act p carries hand none = place_leads act p carries hand (λ some. absurd (some none))
 
   -- from the own desk it is accepted, or stays for good
-  pub own_leads : (act : Act) (p : Parcel) → (p ≡ Apply act) ⊎ (p ≡ Move act) → HasInHand p s → ((a : Act) → p ≡ Apply a → (way s.tables act ≡ Accept → ⊥) → away_here s.tables (target_of a) ≡ true)
-      → t' ≡ with_own p act s.tables → Leads r s t' []
-  own_leads act p carries hand away is = each (way s.tables act) refl is
+  pub own_leads : (act : Act) (p : Parcel) → (p ≡ Apply act) ⊎ (p ≡ Move act) → HasInHand p s → s.came ≡ [] → ((a : Act) → p ≡ Apply a → (way s.tables act ≡ Accept → ⊥) → away_here s.tables (target_of a) ≡ true)
+      → t' ≡ with_own p act s.tables → Leads r s s.landed t' []
+  own_leads act p carries hand none away is = each (way s.tables act) refl is
     where
       sort : IsStray p
       sort = elim carries [
@@ -108,19 +108,19 @@ module _ (r : Rules) (s : Turn) (calm : IsCalm s) (t' : Tables) where
         | inr k ↦ let f : Move act ≡ Shipped a state = sym k ∙ e in cc
       ]
 
-      parks_it : (way s.tables act ≡ Accept → ⊥) → t' ≡ record s.tables { accepted = s.tables.accepted ++ []; stray = s.tables.stray ++ p ∷ [] } → Leads r s t' []
+      parks_it : (way s.tables act ≡ Accept → ⊥) → t' ≡ record s.tables { accepted = s.tables.accepted ++ []; stray = s.tables.stray ++ p ∷ [] } → Leads r s s.landed t' []
       parks_it lost now = record {
         last = s.last;
         labels = Park ∷ [];
         writes = refl;
         steps = (
           record (drops s) { tables = t' },
-          record { parcel = p; sort = sort; away = λ a e. away a e lost; strange = λ a state e. absurd (no_object a state e); hand = hand; now = ap (λ t. record (drops s) { tables = t }) (now ∙ ap (λ xs. record s.tables { accepted = xs; stray = s.tables.stray ++ p ∷ [] }) (append-nil s.tables.accepted)) },
+          record { parcel = p; sort = sort; own = λ a e. none; away = λ a e. away a e lost; strange = λ a state e. absurd (no_object a state e); hand = hand; now = ap (λ t. record (drops s) { tables = t }) (now ∙ ap (λ xs. record s.tables { accepted = xs; stray = s.tables.stray ++ p ∷ [] }) (append-nil s.tables.accepted)) },
           refl,
         );
       }
 
-      each : (v : Way) → way s.tables act ≡ v → t' ≡ record s.tables { accepted = s.tables.accepted ++ accepts v act; stray = s.tables.stray ++ parked v p } → Leads r s t' []
+      each : (v : Way) → way s.tables act ≡ v → t' ≡ record s.tables { accepted = s.tables.accepted ++ accepts v act; stray = s.tables.stray ++ parked v p } → Leads r s s.landed t' []
       each Accept e now = place_leads act p carries hand (λ some. e) (now ∙ (accepted_so ∙ sym (ap (λ v. with_way v act s.tables) e)))
         where
           accepted_so : record s.tables { accepted = s.tables.accepted ++ act ∷ []; stray = s.tables.stray ++ [] } ≡ with_way Accept act s.tables
@@ -142,16 +142,16 @@ module _ (r : Rules) (s : Turn) (calm : IsCalm s) (t' : Tables) where
 
   -- credit that comes home
   pub returned_leads : (id : Id) → HasInHand (Return id) s → HasCredit id → is_live s.tables id ≡ true → credit id ≤ count_here s.tables id
-      → DealsWith (Return id) s.tables t' → Leaves (Return id) s.tables t' → Leads r s t' (returned s.tables id id.log)
+      → DealsWith (Return id) s.tables t' → Leaves (Return id) s.tables t' → Leads r s s.landed t' (returned s.tables id id.log)
   returned_leads id hand has live enough deals leaves = each id.log refl has
     where
-      each : (lg : Option ℕ) → id.log ≡ lg → MatchOption lg ⊥ (λ x. 16 ≤ id.kind) → Leads r s t' (returned s.tables id lg)
+      each : (lg : Option ℕ) → id.log ≡ lg → MatchOption lg ⊥ (λ x. 16 ≤ id.kind) → Leads r s s.landed t' (returned s.tables id lg)
       each None e k = absurd k
       each (Some log) e k =
           let old = record_of_live id live in
           let was : count_here s.tables id ≡ old.0.count = ap (λ (o : Option Record). option_map_or (λ (x : Record). x.count) o 0) old.1 in
           let worth : credit id ≡ 2 ^ log = ap credit_of_log e in
-          let event : Event = Count (bare id) (count_here s.tables id - 2 ^ log) (Returned log) in one_leads r s t' event (inl (record {
+          let event : Event = Count (bare id) (count_here s.tables id - 2 ^ log) (Returned log) in one_leads r s s.landed t' event (inl (record {
             calm = calm;
             id = id;
             old = old.0;
@@ -168,19 +168,19 @@ module _ (r : Rules) (s : Turn) (calm : IsCalm s) (t' : Tables) where
           }))
 
   -- credit that comes home and tells that its object has landed
-  pub arrived_leads : (id : Id) (place : ℕ) → HasInHand (Arrived id place) s → HasCredit id → is_live s.tables id ≡ true → credit id ≤ count_here s.tables id
+  pub arrived_leads : (id : Id) (place : ℕ) → s.landed ≡ None → HasInHand (Arrived id place) s → HasCredit id → is_live s.tables id ≡ true → credit id ≤ count_here s.tables id
       → moving_here s.tables id ≡ Some place → place < s.tables.localities
       → DealsWith (Arrived id place) s.tables t' → Turns id (option_and_then (λ (x : Record). lowered (record x { place = place; moving = None }) id) (record_here s.tables id)) s.tables t'
-      → Leads r s t' (returned s.tables id id.log)
-  arrived_leads id place hand has live enough moves near deals turned = each id.log refl has
+      → Leads r s (Some (bare id)) t' (returned s.tables id id.log)
+  arrived_leads id place alone hand has live enough moves near deals turned = each id.log refl has
     where
-      each : (lg : Option ℕ) → id.log ≡ lg → MatchOption lg ⊥ (λ x. 16 ≤ id.kind) → Leads r s t' (returned s.tables id lg)
+      each : (lg : Option ℕ) → id.log ≡ lg → MatchOption lg ⊥ (λ x. 16 ≤ id.kind) → Leads r s (Some (bare id)) t' (returned s.tables id lg)
       each None e k = absurd k
       each (Some log) e k =
           let old = record_of_live id live in
           let was : count_here s.tables id ≡ old.0.count = ap (λ (o : Option Record). option_map_or (λ (x : Record). x.count) o 0) old.1 in
           let worth : credit id ≡ 2 ^ log = ap credit_of_log e in
-          let event : Event = Count (bare id) (count_here s.tables id - 2 ^ log) (Returned log) in one_leads r s t' event (inr (record {
+          let event : Event = Count (bare id) (count_here s.tables id - 2 ^ log) (Returned log) in one_leads r s (Some (bare id)) t' event (inr (record {
             calm = calm;
             id = id;
             place = place;
@@ -190,16 +190,17 @@ module _ (r : Rules) (s : Turn) (calm : IsCalm s) (t' : Tables) where
             object = refl;
             home = home_of_live id live;
             has = e;
+            alone = alone;
             moving = sym (ap (option_and_then (λ (x : Record). x.moving)) old.1) ∙ moves;
             near = near;
             sum = omega (arith, was, worth, enough);
             recounts = record { was = old.1; own = turned.own ∙ ap (option_and_then (λ (x : Record). lowered (record x { place = place; moving = None }) id)) old.1; others = turned.others };
-            now = ap (λ t. record (drops s) { tables = t; last = Some event }) (deals ∙ ap (λ b. record (with_mail_if b place (Free (bare id)) s.tables) { records = t'.records })
+            now = ap (λ t. record (drops s) { tables = t; landed = Some (bare id); last = Some event }) (deals ∙ ap (λ b. record (with_mail_if b place (Free (bare id)) s.tables) { records = t'.records })
                 (sym (same_last (count_here s.tables id) (credit id) (count_here s.tables id - 2 ^ log) (omega (arith, worth, enough)))));
           }))
 
   -- an object is to leave
-  pub go_leads : (act : Act) → HasInHand (Go act) s → stays_here s.tables (target_of act) ≡ true → is_to s.tables.here (move_to act) ≡ false → DealsWith (Go act) s.tables t' → Leads r s t' []
+  pub go_leads : (act : Act) → HasInHand (Go act) s → stays_here s.tables (target_of act) ≡ true → is_to s.tables.here (move_to act) ≡ false → DealsWith (Go act) s.tables t' → Leads r s s.landed t' []
   go_leads act hand stays away deals = record {
     last = s.last;
     labels = Mark ∷ [];
@@ -209,7 +210,7 @@ module _ (r : Rules) (s : Turn) (calm : IsCalm s) (t' : Tables) where
 
   -- an object comes
   pub object_leads : (act : Act) (state : State) → HasInHand (Shipped act state) s → find (is_standing (target_of act)) s.tables.objects ≡ None → DealsWith (Shipped act state) s.tables t'
-      → Leads r s t' (cond (may_land s.tables act) (Landed (bare (target_of act)) ∷ []) [])
+      → Leads r s s.landed t' (cond (may_land s.tables act) (Landed (bare (target_of act)) ∷ []) [])
   object_leads act state hand absent deals = each (may_land s.tables act) refl deals
     where
       each : (b : Bool) → may_land s.tables act ≡ b → t' ≡ record s.tables {
@@ -217,10 +218,10 @@ module _ (r : Rules) (s : Turn) (calm : IsCalm s) (t' : Tables) where
         accepted = s.tables.accepted ++ cond b (act ∷ []) [];
         came = s.tables.came ++ cond b (record { name = name_of act; object = bare (target_of act) } ∷ []) [];
         stray = s.tables.stray ++ cond b [] (Shipped act state ∷ []);
-      } → Leads r s t' (cond b (Landed (bare (target_of act)) ∷ []) [])
+      } → Leads r s s.landed t' (cond b (Landed (bare (target_of act)) ∷ []) [])
       each true may now =
           let parts = and_true (is_to s.tables.here (move_to act)) (not ((target_of act).home == s.tables.here) || nat_le (target_of act).number s.tables.births) may in
-          one_leads r s t' (Landed (bare (target_of act))) (record {
+          one_leads r s s.landed t' (Landed (bare (target_of act))) (record {
             calm = calm;
             act = act;
             state = state;
@@ -253,6 +254,10 @@ module _ (r : Rules) (s : Turn) (calm : IsCalm s) (t' : Tables) where
           record {
             parcel = Shipped act state;
             sort = tt;
+            own = λ a brings. absurd (elim brings [
+              | inl e ↦ let z : Shipped act state ≡ Apply a = e in cc
+              | inr e ↦ let z : Shipped act state ≡ Move a = e in cc
+            ]);
             away = λ a e. cc;
             strange = λ a x e. subst (λ b. (is_to s.tables.here (move_to b) ≡ false)
                 ⊎ (((target_of b).home ≡ s.tables.here) × (s.tables.births < (target_of b).number))) (let f : act ≡ a = cc in f) (not_here (is_to s.tables.here (move_to act)) refl may);
@@ -276,7 +281,7 @@ module _ (r : Rules) (s : Turn) (calm : IsCalm s) (t' : Tables) where
   -- an ask
   pub asked_leads : (id : Id) (asker entry : ℕ) → HasInHand (Ask id asker entry) s → HasLeastCredit id → asker < s.tables.localities → 1 ≤ s.tables.profile.credit_log
       → is_live s.tables id ≡ true → credit id ≤ count_here s.tables id → DealsWith (Ask id asker entry) s.tables t' → Leaves (Ask id asker entry) s.tables t'
-      → Leads r s t' (answered s.tables id)
+      → Leads r s s.landed t' (answered s.tables id)
   asked_leads id asker entry hand least near lasts live enough deals leaves = each (nat_lt s.tables.profile.credit_limit (more_here s.tables id)) refl
     where
       old : (x : Record) × (find_record id s.tables.records ≡ Some x)
@@ -292,9 +297,9 @@ module _ (r : Rules) (s : Turn) (calm : IsCalm s) (t' : Tables) where
       own = leaves.own ∙ ap (option_map (raised s.tables.profile)) old.1
 
       each : (b : Bool) → nat_lt s.tables.profile.credit_limit (more_here s.tables id) ≡ b
-          → Leads r s t' (cond b (Count (bare id) (count_here s.tables id) Refused) (Count (bare id) (more_here s.tables id) Granted) ∷ [])
+          → Leads r s s.landed t' (cond b (Count (bare id) (count_here s.tables id) Refused) (Count (bare id) (more_here s.tables id) Granted) ∷ [])
       each true e =
-          let event : Event = Count (bare id) (count_here s.tables id) Refused in one_leads r s t' event (record {
+          let event : Event = Count (bare id) (count_here s.tables id) Refused in one_leads r s s.landed t' event (record {
             calm = calm;
             id = id;
             asker = asker;
@@ -313,7 +318,7 @@ module _ (r : Rules) (s : Turn) (calm : IsCalm s) (t' : Tables) where
                 (deals ∙ ap (λ c. record (with_mail asker (Give (cond c id (record id { log = Some s.tables.profile.credit_log })) entry) s.tables) { records = t'.records }) e);
           })
       each false e =
-          let event : Event = Count (bare id) (more_here s.tables id) Granted in one_leads r s t' event (record {
+          let event : Event = Count (bare id) (more_here s.tables id) Granted in one_leads r s s.landed t' event (record {
             calm = calm;
             id = id;
             asker = asker;
@@ -356,13 +361,13 @@ found_place p (y ∷ ys) x h = if_so (p y) (λ t. record { i = 0; there = rw t a
     (λ f. let k = found_place p ys x (rw f at h) in record { i = suc k.i; there = k.there; less = rw f (ap (λ zs. y ∷ zs) k.less) })
 
 pub freed_leads : (r : Rules) (s : Turn) (t' : Tables) (o : Id) → IsCalm s → s.working ≡ [] → s.loose ≡ [] → IsTold r (Free o) s → free_rule s.tables (bare o) o ≡ None
-    → DealsWith (Free o) s.tables t' → Leaves (Free o) s.tables t' → Leads r s t' (freed o (find (is_standing o) s.tables.objects))
+    → DealsWith (Free o) s.tables t' → Leaves (Free o) s.tables t' → Leads r s s.landed t' (freed o (find (is_standing o) s.tables.objects))
 freed_leads r s t' o calm alone empty told right deals leaves = each (find (is_standing o) s.tables.objects) refl facts.0
   where
     facts : (stands_here s.tables o ≡ true) × (waits_here s.tables o ≡ false) × (held_here s.tables o ≡ 0)
     facts = free_right s.tables (bare o) o right
 
-    each : (k : Option Standing) → find (is_standing o) s.tables.objects ≡ k → is_some k ≡ true → Leads r s t' (freed o k)
+    each : (k : Option Standing) → find (is_standing o) s.tables.objects ≡ k → is_some k ≡ true → Leads r s s.landed t' (freed o k)
     each None is some = absurd (cc)
     each (Some x) is some =
         let at : Found (is_standing o) s.tables.objects x = found_place (is_standing o) s.tables.objects x is in
@@ -398,9 +403,9 @@ given_leads r s t' id entry calm hand credit right g = grind (arith, nat_tests)
 
 -- where it waits on
 pub given_waits : (r : Rules) (s : Turn) (t' : Tables) (id : Id) (entry : ℕ) → IsCalm s → HasInHand (Give id entry) s → HasCredit id → brings_right s.tables id ≡ true
-    → (g : Gives id entry s.tables t') → (length g.after.asked == 0) ≡ false → Leads r s t' (Given (bare id) (log_of id.log) ∷ [])
+    → (g : Gives id entry s.tables t') → (length g.after.asked == 0) ≡ false → Leads r s s.landed t' (Given (bare id) (log_of id.log) ∷ [])
 given_waits r s t' id entry calm hand credit right g waits =
-    one_leads r s t' (Given (bare id) (log_of id.log)) (subst (Step r s (Writes (Given (bare id) (log_of id.log)))) then_is (given_leads r s t' id entry calm hand credit right g))
+    one_leads r s s.landed t' (Given (bare id) (log_of id.log)) (subst (Step r s (Writes (Given (bare id) (log_of id.log)))) then_is (given_leads r s t' id entry calm hand credit right g))
   where
     then_is : wrote (Given (bare id) (log_of id.log)) (goes_on g.i g.after (drops s)) ≡ record (drops s) { tables = t'; last = Some (Given (bare id) (log_of id.log)) }
     then_is =

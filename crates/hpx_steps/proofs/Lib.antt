@@ -45,6 +45,8 @@ pub mod Refilled
 pub mod Given
 pub mod Unheld
 pub mod Freed
+pub mod Stranded
+pub mod Homes
 pub mod Step
 pub mod AtRest
 pub mod Booted

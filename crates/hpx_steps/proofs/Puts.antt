@@ -84,10 +84,10 @@ target-bare act = each act.ids
 pub move_to-bare : (act : Act) → move_to (bare_act act) ≡ move_to act
 move_to-bare act = ap (λ (o : Id). cond ((act.code == 1) && is_movable o.kind) (place_in act.args) None) (target-bare act)
 
-not_home : (a b : ℕ) → not (a == b) ≡ false → a ≡ b
+pub not_home : (a b : ℕ) → not (a == b) ≡ false → a ≡ b
 not_home a b h = grind arith
 
-or_parts : (a b : Bool) → (a || b) ≡ false → (a ≡ false) × (b ≡ false)
+pub or_parts : (a b : Bool) → (a || b) ≡ false → (a ≡ false) × (b ≡ false)
 or_parts a b h = grind arith
 
 -- at the home nothing is accepted by its record
@@ -113,7 +113,7 @@ move_queues k to None h = cc
 move_queues k to (Some x) h = if_so (is_some x.moving) (λ t. rw t refl)
     (λ t. absurd (if_so (x.place == to) (λ u. let e : To to ≡ Queue = rw (t, u) at h in cc) (λ u. let e : Begin x.place ≡ Queue = rw (t, u) at h in cc)))
 
-to_same : (a b : ℕ) → To a ≡ To b → a ≡ b
+pub to_same : (a b : ℕ) → To a ≡ To b → a ≡ b
 to_same a b e = cc
 
 -- what goes on does so where its record says that it is elsewhere
@@ -140,7 +140,7 @@ pub record Begins (t : Tables) (o : Id) (to p : ℕ) : Type 0 where
   pub away : to ≢ p
   pub still : old.moving ≡ None
 
-none_moving : (m : Option ℕ) → is_some m ≡ false → m ≡ None
+pub none_moving : (m : Option ℕ) → is_some m ≡ false → m ≡ None
 none_moving None e = refl
 none_moving (Some k) e = cc
 
@@ -246,13 +246,13 @@ put_tidy t act fit near = each (way t act) (way_goes t act)
 -- ---- records where a move begins
 
 module _ (id : Id) (made : Record → Record) (same : (r : Record) → (made r).gid ≡ r.gid) where
-  remade_own : (old : Record) (rs : List Record) → find_record id rs ≡ Some old → find_record id (remade id made rs) ≡ Some (made old)
+  pub remade_own : (old : Record) (rs : List Record) → find_record id rs ≡ Some old → find_record id (remade id made rs) ≡ Some (made old)
   remade_own old [] h = cc
   remade_own old (r ∷ rs) h = if_so (same_object id r.gid)
       (λ t. let e : r ≡ old = some_same r old (rw t at h) in let u : same_object id (made r).gid ≡ true = ap (same_object id) (same r) ∙ t in rw (t, u) (ap (λ x. Some (made x)) e))
       (λ t. rw (t, t) (remade_own old rs (rw t at h)))
 
-  remade_others : (o : Id) (rs : List Record) → same_object id o ≡ false → find_record o (remade id made rs) ≡ find_record o rs
+  pub remade_others : (o : Id) (rs : List Record) → same_object id o ≡ false → find_record o (remade id made rs) ≡ find_record o rs
   remade_others o [] off = refl
   remade_others o (r ∷ rs) off = if_so (same_object id r.gid)
       (λ t.

@@ -8,7 +8,7 @@ use Rattle.std.specs.List.Sorted.{IsPermutation}
 
 -- ---- what is found, and how often
 
-none_count : (p : Standing → Bool) (xs : List Standing) → find p xs ≡ None → count_by p xs ≡ 0
+pub none_count : (p : Standing → Bool) (xs : List Standing) → find p xs ≡ None → count_by p xs ≡ 0
 none_count p [] h = refl
 none_count p (x ∷ xs) h = if_so (p x) (λ t. absurd (let e : Some x ≡ None = rw t at h in cc))
     (λ f. omega (arith, sum_by-cons (counts_of p) x xs, counts_false p x f, none_count p xs (rw f at h)))
@@ -18,7 +18,7 @@ among_place x [] m = absurd m
 among_place x (y ∷ ys) (inl e) = (zero, ap (λ z. Some z) e)
 among_place x (y ∷ ys) (inr m) = let at = among_place x ys m in (suc at.0, at.1)
 
-single_count : (xs : List Standing) → Single xs → (o : Id) → count_by (is_standing o) xs ≤ 1
+pub single_count : (xs : List Standing) → Single xs → (o : Id) → count_by (is_standing o) xs ≤ 1
 single_count [] h o = omega arith
 single_count (x ∷ xs) h o = if_so (is_standing o x)
     (λ t. omega (

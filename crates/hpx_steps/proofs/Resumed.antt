@@ -66,7 +66,7 @@ module _ (r : Rules) (t mid : Tables) (came mailed : List Parcel) (before : Opti
 
   -- the commit goes on so
   pub given_ends : (t' : Tables) (events : List Event) → ((l : Option Event) × Writing r resumed events (record (at_rest t') { last = l }))
-      → Leads r (in_hand t came mailed before) t' (given_event id ∷ events)
+      → Leads r (in_hand t came mailed before) None t' (given_event id ∷ events)
   given_ends t' events more = record {
     last = more.0;
     labels = Writes (given_event id) ∷ map (λ e. Writes e) events;
@@ -95,7 +95,7 @@ module _ (r : Rules) (t mid : Tables) (came mailed : List Parcel) (before : Opti
 
   pub given_fails : (refusal : Id) (j : ℕ) (x : Standing) (left : Remains) → g.after.refused ≡ Some refusal → slice_get t.objects j ≡ Some x
       → find (is_standing (target_of g.after.job.action)) t.objects ≡ Some x → IsLeftFailed g.after x left
-      → Leads r (in_hand t came mailed before) (failed j x left) (given_event id ∷ (Done (name_of g.after.job.action) true ∷ (written_due t.here t.serial left.due ++ ups (with_credit (rider_of g.after.job.action) ++ left.loose))))
+      → Leads r (in_hand t came mailed before) None (failed j x left) (given_event id ∷ (Done (name_of g.after.job.action) true ∷ (written_due t.here t.serial left.due ++ ups (with_credit (rider_of g.after.job.action) ++ left.loose))))
   given_fails refusal j x left refused stands found by =
       given_ends (failed j x left) (Done (name_of g.after.job.action) true ∷ (written_due t.here t.serial left.due ++ ups (with_credit (rider_of g.after.job.action) ++ left.loose)))
       (fail_steps r resumed g.after [] refusal j x left refl refl refl complete refused stands found other by)
@@ -126,7 +126,7 @@ module _ (r : Rules) (t mid : Tables) (came mailed : List Parcel) (before : Opti
         → slice_get t.objects j ≡ Some x → find (is_standing (target_of g.after.job.action)) t.objects ≡ Some x
         → AllByRecursion (Drawn t.here t.births) t.objects
         → IsLeftBy r t.here g.after.job g.after.outcome x full_cut (map bare made) left
-        → Leads r (in_hand t came mailed before) (done j x left) (given_event id ∷ ((births_of t.here t.births (map birth_of g.after.outcome.makes) ++ splits_from 0 full places)
+        → Leads r (in_hand t came mailed before) None (done j x left) (given_event id ∷ ((births_of t.here t.births (map birth_of g.after.outcome.makes) ++ splits_from 0 full places)
         ++ (Done (name_of g.after.job.action) false ∷ (written_due t.here t.serial left.due ++ (rider_events t.profile.credit_log left.state.ids (rider_of g.after.job.action) ++ ups left.loose)))))
     given_done j x left within lasts stands found drawn by =
         let s : Turn = record resumed { working = [] } in

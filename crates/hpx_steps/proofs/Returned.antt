@@ -1,6 +1,7 @@
 -- Credit comes home.
 use Rattle.hpx_steps.specs.Rows.{Gives, GosOf, Landings, LandsOf, Leavings}
 use Rattle.hpx_steps.proofs.Common.{Actions, Arrived, Arrives, Counts, FreesOf, IsParcel, Parcel, Refusals, asks_as, asks_for, brings, frees_one, gives_for, parcel_acts, parcel_asks, parcel_tokens, parcel_travels, ◌⊎◌, inl, inr, some_same, ◌-◌, MovesOn, None, Bool, Came, Count, Entry, Event, Free, Going, HasInHand, Id, IsSound, IsTidy, Item, List, Mailed, MatchOption, OnDesk, Option, Record, Recounts, Return, Returned, Row, Rules, Some, TakesBack, TidyAt, Token, Turn, View, [], ap, arith, asked_by, asks_under, bare, bare_due, causes, cond, count_by, count_in, counted, counts_of, counts_true, credit, credit_of_log, drops, eqb-true, false, find, follows_returned, freeing, given_to, goes, going, hopping, is_other, is_recorded, joined, lowered, mails_if, map, one_if, option_map_or, owed_token, owes, parcel_frees, refl, same_object, same_token, subst, sum_by, sum_by-cons, sym, token_own, tokens, true, unpaid, view, waits_for, weigh, weight, with_records, worth, wrote, ℕ, ◌&&◌, ◌++◌, ◌+◌, ◌==◌, ◌^◌, ◌∙◌, ◌∷◌, ◌≡◌, ◌≤◌, grants_here, grants_of, is_away, away_here, find_record, false_from, same_object-sym, same_object-true, not, nat_lt, leads_on, leads_away, tells_come, tells_at, Among, eq-eqb, flow, flow_in, flow_of, Flow, dies, record_moves, record_rests, is_to, is_some, ◌<◌, tells_own, EndsAt, flow_go, free_for, MovesTo, PlacedAt, brought, moved_by, IsLive, cases_lt}
+use Rattle.hpx_steps.proofs.Then.{keeps_landed}
 use Rattle.hpx_steps.proofs.Tools.{Changes, Keeps, Sees, asks_of, bound_none, by_rows, counts_near, drop_change, fewer, frees_of, hand_fit, hand_weighs, holding, if_so, in_hand, is_frame, mail_change, mail_tidy, owed_by, own_sum, same_asks, sees_covers, sees_leads, sent_if, sent_total, then, told_as, total, view_covered, view_worth, same_travels, ships_of, same_waits, acting, tracks_by, flowless, by_flows, own_is, eq_turned}
 use Rattle.hpx_steps.proofs.Records.{found_counted, one_recounted, places_still, away_still, placed_still}
 
@@ -425,7 +426,8 @@ returned_step r s s' entries o count log h g =
 
 pub arrived_step : (r : Rules) (s s' : Turn) (entries : List Entry) (o : Id) (count log : ℕ) → IsSound r s entries → Arrives s o count log s' → Keeps r s s' (Count o count (Returned log))
 arrived_step r s s' entries o count log h g =
-    told_as r s s' (λ x. Count x count (Returned log)) (λ x. mails_if (count == 0) g.place (Free (bare g.id)) (with_records g.records (drops s))) o (bare g.id) g.object g.now
+    told_as r s s' (λ x. Count x count (Returned log)) (λ x. mails_if (count == 0) g.place (Free (bare g.id)) (with_records g.records (record (drops s) { landed = Some (bare g.id) }))) o (bare g.id) g.object g.now
+    (keeps_landed r s (wrote (Count (bare g.id) count (Returned log)) (mails_if (count == 0) g.place (Free (bare g.id)) (with_records g.records (drops s)))) (Count (bare g.id) count (Returned log)) (Some (bare g.id))
     (returned_keeps r s entries h g.id log count g.old g.records (Arrived g.id g.place) g.place (record g.old { place = g.place; moving = None }) (inr refl) refl g.calm.due g.calm.fresh g.hand g.home
     g.has g.sum g.recounts (λ k same. cc) (λ k. rw g.moving refl) (λ k. rw g.moving refl)
-    (inr (lands_at s g.id g.place h.tidy g.hand)) (inr g.near) (apart_flow s.tables.here g.id g.place) (turn_flow s.tables.here g.id g.place g.old g.moving))
+    (inr (lands_at s g.id g.place h.tidy g.hand)) (inr g.near) (apart_flow s.tables.here g.id g.place) (turn_flow s.tables.here g.id g.place g.old g.moving)))

@@ -1,5 +1,6 @@
 -- What is done without an entry.
-use Rattle.hpx_steps.proofs.Common.{IsRowAt, AllByRecursion, AreFired, AreNumbered, AreNumbers, AreRules, Entry, Event, HasCommits, HasPlaces, Id, IsOrderly, IsPaid, IsSound, IsTidy, Leads, List, None, Row, Rules, SendsOwn, StandsFor, Tables, Turn, [], ap, append-nil, arith, asked_by, commits, freeing, given_to, grow, hopping, joined, map, part, refl, subst, sym, unpaid, view, waits_for, weaker_leads, weigh, ℕ, ◌+◌, ◌∙◌, ◌∷◌, ◌≡◌, ◌≢◌, ◌≤◌, HasBegun, IsPlaced, IsFlowing, Arrival, brought, moved_by}
+use Rattle.hpx_steps.proofs.Common.{IsRowAt, AllByRecursion, AreFired, AreNumbered, AreNumbers, AreRules, Entry, Event, HasCommits, HasPlaces, Id, IsOrderly, IsPaid, IsSound, IsTidy, Leads, List, None, Row, Rules, SendsOwn, StandsFor, Tables, Turn, [], ap, append-nil, arith, asked_by, commits, freeing, given_to, grow, hopping, joined, map, part, refl, subst, sym, unpaid, view, waits_for, weaker_leads, weigh, ℕ, ◌+◌, ◌∙◌, ◌∷◌, ◌≡◌, ◌≢◌, ◌≤◌, HasBegun, IsPlaced, IsFlowing, Arrival, brought, moved_by, Option}
+use Rattle.hpx_steps.specs.Homes.{HasHomes}
 use Rattle.hpx_steps.proofs.Calm.{SameNumbers}
 use Rattle.hpx_steps.proofs.Then.{Tracks, begun_then, shown_then, Says, placed_then, Flows, flowing_then}
 
@@ -25,15 +26,19 @@ fired_more : (n m : ℕ) (es : List Event) → n ≤ m → AreFired n es → Are
 fired_more n m [] less h = tt
 fired_more n m (e ∷ es) less h = (omega (arith, h.0, less), fired_more n m es less h.1)
 
--- so all holds still
-pub still_sound : (r : Rules) (s s' : Turn) (entries : List Entry) → IsSound r s entries → Stills r s s' → IsSound r s' entries
-still_sound r s s' entries h k =
+-- so all holds still, where what waits has a home
+pub still_sound : (r : Rules) (s s' : Turn) (entries : List Entry) → IsSound r s entries → Stills r s s'
+    → (AreRules r s'.tables → StandsFor r (view s') entries → IsFlowing r s' (part s'.tables.here entries) → HasHomes r s' (part s'.tables.here entries)) → IsSound r s' entries
+still_sound r s s' entries h k homes =
     let here : s'.tables.here ≡ s.tables.here = ap (λ (t : Tables). t.here) k.same in
     let es = part s.tables.here entries in
-    let there : part s'.tables.here entries ≡ part s.tables.here entries = ap (λ j. part j entries) here in record {
-      rules = let q = subst (AreRules r) (sym k.same) (record { localities = h.rules.localities; credit_log = h.rules.credit_log; credit_limit = h.rules.credit_limit }) in
-          record { localities = q.localities; credit_log = q.credit_log; credit_limit = q.credit_limit };
-      keeps = subst (StandsFor r (view s')) (append-nil entries) (grow r (view s) (view s') entries [] h.keeps k.leads);
+    let there : part s'.tables.here entries ≡ part s.tables.here entries = ap (λ j. part j entries) here in
+    let q = subst (AreRules r) (sym k.same) (record { localities = h.rules.localities; credit_log = h.rules.credit_log; credit_limit = h.rules.credit_limit }) in
+    let rules : AreRules r s'.tables = record { localities = q.localities; credit_log = q.credit_log; credit_limit = q.credit_limit } in
+    let keeps : StandsFor r (view s') entries = subst (StandsFor r (view s')) (append-nil entries) (grow r (view s) (view s') entries [] h.keeps k.leads) in
+    let flowing : IsFlowing r s' (part s'.tables.here entries) = subst (IsFlowing r s') (sym there) (flowing_then r None s s' es es here (ap (λ (t : Tables). t.localities) k.same) (λ f. omega arith) h.flowing k.flows) in record {
+      rules = rules;
+      keeps = keeps;
       tidy = k.tidy;
       places = k.places;
       commits = k.commits;
@@ -50,7 +55,8 @@ still_sound r s s' entries h k =
       });
       begun = subst (HasBegun r s') (sym there) (begun_then r s s' (λ o. 0) (λ o. 0) es es here (λ o. omega arith) (λ o. omega arith) h.begun k.tracks (λ clean. (clean, shown_then r s entries h clean)));
       placed = subst (IsPlaced r s') (sym there) (placed_then r s s' (λ o j. 0) (λ o. 0) es es here (λ o j. omega arith) (λ o. omega arith) h.placed k.says);
-      flowing = subst (IsFlowing r s') (sym there) (flowing_then r None s s' es es here (ap (λ (t : Tables). t.localities) k.same) (λ f. omega arith) h.flowing k.flows);
+      flowing = flowing;
+      homes = homes rules keeps flowing;
       arrived = k.arrived;
       numbers = let n = subst (λ (t : Tables). AreNumbers r (record s { tables = t }) entries) (sym k.same)
           (record { born = h.numbers.born; few = h.numbers.few; asked = h.numbers.asked; sent = h.numbers.sent; taken = h.numbers.taken; few_answers = h.numbers.few_answers; answered = h.numbers.answered }) in
@@ -93,6 +99,30 @@ rest_sound r s entries h = record {
   begun = record { away = h.begun.away; queued = h.begun.queued; stray = h.begun.stray; onward = h.begun.onward; lands = h.begun.lands };
   placed = record { placed = h.placed.placed; told = h.placed.told; own = h.placed.own };
   flowing = record { flows = h.flowing.flows; ends = h.flowing.ends; near = h.flowing.near };
+  homes = record {
+    waits = λ w m. let k = h.homes.waits w m in record { born = k.born; moves = k.moves };
+    own = h.homes.own;
+  };
+  arrived = h.arrived;
+  numbers = grind arith;
+}
+
+-- ---- nothing but which object has landed
+
+pub landed_sound : (r : Rules) (s : Turn) (landed : Option Id) (entries : List Entry) → IsSound r s entries → HasHomes r (record s { landed = landed }) (part s.tables.here entries)
+    → IsSound r (record s { landed = landed }) entries
+landed_sound r s landed entries h homes = record {
+  rules = record { localities = h.rules.localities; credit_log = h.rules.credit_log; credit_limit = h.rules.credit_limit };
+  keeps = h.keeps;
+  tidy = h.tidy;
+  places = h.places;
+  commits = h.commits;
+  paid = record { rows = h.paid.rows; once = h.paid.once; fired = h.paid.fired; frees = h.paid.frees };
+  orderly = record { sent = h.orderly.sent; asked = h.orderly.asked; given = h.orderly.given };
+  begun = record { away = h.begun.away; queued = h.begun.queued; stray = h.begun.stray; onward = h.begun.onward; lands = h.begun.lands };
+  placed = record { placed = h.placed.placed; told = h.placed.told; own = h.placed.own };
+  flowing = record { flows = h.flowing.flows; ends = h.flowing.ends; near = h.flowing.near };
+  homes = homes;
   arrived = h.arrived;
   numbers = grind arith;
 }

@@ -1,5 +1,6 @@
 -- One more entry: what has to be shown of it once, for all that holds of a locality and its part.
-use Rattle.hpx_steps.proofs.Common.{IsRowAt, starts, Agree, AllByRecursion, AreFired, AreNumbered, AreNumbers, Entry, Event, HasCommits, HasPlaces, Id, IsOrderly, IsPaid, IsSound, IsTidy, Leads, List, Local, Row, Rules, SendsOwn, Turn, [], all_append, all_count, ap, arith, arrives_at, asked_by, asks_for, asks_under, at_all, at_boot, bare_act, causes, clean_front, come, commits, cond, count_by, done_after, entry_at, fired_of, fires_one, freeing, given_to, gives_for, goes, gone, gone_to, grow, hopping, ins, is_act, is_answer, is_free_of, is_freed, joined, joins, length, length-append, map, map-append, outs, outs_by, part, part_append, part_at, refl, run_local, run_local_append, spends, subst, sum_by-append, sum_by-cons, sym, takes_such, unpaid, view, waits_for, weigh, ℕ, ◌++◌, ◌+◌, ◌∙◌, ◌∷◌, ◌≡◌, ◌≢◌, ◌≤◌, Among, HasBegun, Parcel, Waiting, act_in, grants_gone, grants_here, inl, inr, target_of, true, ◌⊎◌, Act, Apply, away_here, leads_away, grants_made, leads_on, IsPlaced, Record, Some, find_record, tells_at, tells_come, Flow, IsFlowing, None, Option, dies, flow, flow_comes, flow_goes, flow_of, record_here, record_moves, record_rests, ◌<◌, tells_own, is_landed_of, one_if, false, State, Shipped, Shows, is_to, move_to, EndsAt, Bool, ◌==◌, Arrival, brought, moved_by}
+use Rattle.hpx_steps.proofs.Common.{Act, Agree, AllByRecursion, Among, Apply, AreFired, AreNumbered, AreNumbers, AreRules, Arrival, Bool, EndsAt, Entry, Event, Flow, HasBegun, HasCommits, HasPlaces, Id, IsFlowing, IsOrderly, IsPaid, IsPlaced, IsRowAt, IsSound, IsTidy, Leads, List, Local, None, Option, Parcel, Record, Row, Rules, SendsOwn, Shipped, Shows, Some, StandsFor, State, Turn, Waiting, [], act_in, all_append, all_count, ap, arith, arrives_at, asked_by, asks_for, asks_under, at_all, at_boot, away_here, bare_act, brought, causes, clean_front, come, commits, cond, count_by, dies, done_after, entry_at, false, find_record, fired_of, fires_one, flow, flow_comes, flow_goes, flow_of, freeing, given_to, gives_for, goes, gone, gone_to, grants_gone, grants_here, grants_made, grow, hopping, inl, inr, ins, is_act, is_answer, is_free_of, is_freed, is_landed_of, is_to, joined, joins, leads_away, leads_on, length, length-append, map, map-append, move_to, moved_by, one_if, outs, outs_by, part, part_append, part_at, record_here, record_moves, record_rests, refl, run_local, run_local_append, spends, starts, subst, sum_by-append, sum_by-cons, sym, takes_such, target_of, tells_at, tells_come, tells_own, true, unpaid, view, waits_for, weigh, ℕ, ◌++◌, ◌+◌, ◌<◌, ◌==◌, ◌∙◌, ◌∷◌, ◌≡◌, ◌≢◌, ◌≤◌, ◌⊎◌}
+use Rattle.hpx_steps.specs.Homes.{HasHomes}
 use Rattle.hpx_journal.specs.Foreign.{IsUndrawn, kept}
 use Rattle.hpx_journal.specs.Local.{after}
 use Rattle.hpx_journal.specs.Whole.{IsClean}
@@ -248,6 +249,34 @@ pub record Keeps (r : Rules) (s s' : Turn) (e : Event) : Type 0 where
   pub arrived : (a : Arrival) → weigh (brought a) s' ≤ weigh (moved_by a) s'
   pub counts : Counts s s' e
 
+-- it does not matter which object has landed
+pub keeps_landed : (r : Rules) (s s' : Turn) (e : Event) (landed : Option Id) → Keeps r s s' e → Keeps r s (record s' { landed = landed }) e
+keeps_landed r s s' e landed k = record {
+  leads = k.leads;
+  tidy = k.tidy;
+  places = k.places;
+  commits = k.commits;
+  numbered = k.numbered;
+  pays = record { rows = k.pays.rows; once = k.pays.once; fired = k.pays.fired; frees = k.pays.frees };
+  orders = record { sent = k.orders.sent; asked = k.orders.asked; given = k.orders.given };
+  tracks = record { kept = k.tracks.kept; away = k.tracks.away; waits = k.tracks.waits; stays = k.tracks.stays; onward = k.tracks.onward; lands = k.tracks.lands };
+  says = record { placed = k.says.placed; told = k.says.told; own = k.says.own };
+  flows = record { flows = k.flows.flows; ends = k.flows.ends; near = k.flows.near };
+  arrived = k.arrived;
+  counts = record {
+    here = k.counts.here;
+    localities = k.counts.localities;
+    profile = k.counts.profile;
+    born = k.counts.born;
+    few = k.counts.few;
+    asked = k.counts.asked;
+    sent = k.counts.sent;
+    taken = k.counts.taken;
+    few_answers = k.counts.few_answers;
+    answered = k.counts.answered;
+  };
+}
+
 -- ---- a part with one more entry
 
 -- up to a foreign arrival the part leads to what is seen
@@ -281,7 +310,7 @@ module _ (r : Rules) (s s' : Turn) (e : Event) (entries : List Entry) (h : IsSou
   abbrev old : List Entry
   old = part s.tables.here entries
 
-  grown : part s'.tables.here (entries ++ one) ≡ old ++ one
+  pub grown : part s'.tables.here (entries ++ at_all s.tables.here (e ∷ [])) ≡ part s.tables.here entries ++ at_all s.tables.here (e ∷ [])
   grown = grind (arith, one, part_append, here, old, part_at)
 
   more : (f : Event → ℕ) → all_count f (old ++ one) ≡ all_count f old + f e
@@ -338,11 +367,21 @@ module _ (r : Rules) (s s' : Turn) (e : Event) (entries : List Entry) (h : IsSou
       ins_more [] = omega (arith, length-append (arrives_at here e) [])
       ins_more (x ∷ xs) = omega (arith, ins_more xs, length-append (arrives_at x.at x.event) (ins xs), length-append (arrives_at x.at x.event) (ins (xs ++ one)))
 
-  -- so all holds still
-  pub sound_then : IsSound r s' (entries ++ one)
-  sound_then = record {
-    rules = grind arith;
-    keeps = grow r (view s) (view s') entries (e ∷ []) h.keeps k.leads;
+  rules_then : AreRules r s'.tables
+  rules_then = grind arith
+
+  keeps_then : StandsFor r (view s') (entries ++ one)
+  keeps_then = grow r (view s) (view s') entries (e ∷ []) h.keeps k.leads
+
+  flows_then : IsFlowing r s' (part s'.tables.here (entries ++ one))
+  flows_then = subst (IsFlowing r s') (sym grown) (flowing_then r (Some e) s s' old (old ++ one) k.counts.here k.counts.localities more h.flowing k.flows)
+
+  -- so all holds still, where what waits has a home
+  pub sound_then : (AreRules r s'.tables → StandsFor r (view s') (entries ++ one) → IsFlowing r s' (part s'.tables.here (entries ++ one)) → HasHomes r s' (part s'.tables.here (entries ++ one)))
+      → IsSound r s' (entries ++ one)
+  sound_then homes = record {
+    rules = rules_then;
+    keeps = keeps_then;
     tidy = k.tidy;
     places = k.places;
     commits = k.commits;
@@ -351,7 +390,8 @@ module _ (r : Rules) (s s' : Turn) (e : Event) (entries : List Entry) (h : IsSou
     begun = subst (HasBegun r s') (sym grown) (begun_then r s s' (λ o. grants_gone r o e) (λ o. gone r (leads_on s.tables.here o) e) old (old ++ one) k.counts.here (λ o. more (grants_gone r o)) (λ o. more (gone r (leads_on s.tables.here o))) h.begun k.tracks
         (λ clean. let first = (clean_front r (at_boot r here) old one clean).0 in (first, shown_then r s entries h first)));
     placed = subst (IsPlaced r s') (sym grown) (placed_then r s s' (λ o j. come r (tells_at o j) e) (λ o. one_if (is_landed_of o e)) old (old ++ one) k.counts.here (λ o j. more (come r (tells_at o j))) (λ o. more (λ x. one_if (is_landed_of o x))) h.placed k.says);
-    flowing = subst (IsFlowing r s') (sym grown) (flowing_then r (Some e) s s' old (old ++ one) k.counts.here k.counts.localities more h.flowing k.flows);
+    flowing = flows_then;
+    homes = homes rules_then keeps_then flows_then;
     arrived = k.arrived;
     numbers = numbers_then;
   }

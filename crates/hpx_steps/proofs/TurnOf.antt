@@ -1,21 +1,31 @@
 -- A turn: a message is taken up and dealt with, a frame goes, a line is fed, an action is fired.
-use Rattle.hpx_steps.proofs.Common.{suc, zero, IsWaitingFor, Queued, Release, Waiting, act_in, append-nil, is_for, is_some, moving_here, released_by, with_act, with_released, without_first, inl, inr, ◌⊎◌, Left, Reorder, acts_on, list_any, move_to, target_of, with_mail, bare, Accepts, Act, Apply, Arrived, Ask, Cached, DealsWith, Entry, Event, Fire, Free, Give, Go, HasInHand, Id, In, IsParcel, IsSound, IsTold, Label, Leaves, Line, List, Mail, Move, None, OnDesk, Option, Out, Outcome, Outgoing, Parcel, Return, Rules, Shipped, Some, Standing, Stands, State, Step, Steps, Tables, TidyAt, Turn, Writes, [], ap, arith, at_all, at_rest, breaks, broken, broken_near, effects, false, find, fired_acts, held_here, if◌then◌else◌, is_busy, is_far, is_standing, kind_of, leaves, length, line_act, min, name_of, nat_le, nat_tests, not, parcel_of, refl, remove, rules_of, slice_get, stands_here, subst, sym, waits_here, written, ℕ, ◌&&◌, ◌++◌, ◌+◌, ◌-◌, ◌==◌, ◌^◌, ◌∙◌, ◌∷◌, ◌≡◌, ◌≤◌, away_here, true, IsForHere}
+use Rattle.hpx_steps.proofs.Common.{Accepts, Act, Among, Apply, Arrived, Ask, Cached, DealsWith, Entry, Event, Fire, Free, Give, Go, HasInHand, Id, In, IsForHere, IsParcel, IsSound, IsTold, IsWaitingFor, Label, Leaves, Left, Line, List, Mail, Move, None, OnDesk, Option, Out, Outcome, Outgoing, Parcel, Queued, Record, Release, Reorder, Return, Rules, Shipped, Some, Standing, Stands, State, Step, Steps, Tables, TidyAt, Turn, Waiting, Writes, [], act_in, acts_on, ap, append-nil, arith, at_all, at_rest, away_here, bare, breaks, broken, broken_near, effects, false, find, fired_acts, held_here, if◌then◌else◌, inl, inr, is_busy, is_far, is_for, is_some, is_standing, kind_of, leaves, length, line_act, list_any, min, move_to, moving_here, name_of, nat_le, nat_tests, not, parcel_of, record_here, refl, released_by, remove, rules_of, slice_get, stands_here, subst, suc, sym, target_of, true, waits_here, with_act, with_mail, with_released, without_first, written, zero, ℕ, ◌&&◌, ◌++◌, ◌+◌, ◌-◌, ◌==◌, ◌^◌, ◌∙◌, ◌∷◌, ◌≡◌, ◌≤◌, ◌⊎◌}
+use Rattle.hpx_steps.specs.Calls.{lands}
+use Rattle.hpx_steps.specs.Rest.{StandsBut}
+use Rattle.hpx_steps.specs.Steps.{Settle}
+use Rattle.hpx_steps.specs.Turn.{in_release}
 use Rattle.std.specs.List.Sorted.{IsPermutation}
 use Rattle.hpx_steps.proofs.Tools.{found_among, if_so, none_of, rest_sound, root_stays}
 use Rattle.hpx_steps.proofs.Handled.{Leads, act_leads, arrived_leads, asked_leads, freed_leads, go_leads, object_leads, own_leads, returned_leads}
 use Rattle.hpx_steps.proofs.Right.{go_right, landed_right, near_right, object_right, return_right, parked_away}
 use Rattle.hpx_steps.proofs.Step.{steps_sound}
 
+-- where one step after another leads there
+pub turn_stands_but : (act_of : ℕ → ℕ → ℕ → State → Act → Outcome) (landed landed' : Option Id) (t t' : Tables) (entries : List Entry) (labels : List Label) (l : Option Event)
+    → StandsBut landed act_of t entries → Steps (rules_of act_of t.localities t.profile) (in_release landed t) labels (record (in_release landed' t') { last = l })
+    → StandsBut landed' act_of t' (entries ++ at_all t.here (written labels))
+turn_stands_but act_of landed landed' t t' entries labels l h steps =
+    let k = steps_sound (rules_of act_of t.localities t.profile) (in_release landed t) (record (in_release landed' t') { last = l }) labels entries h steps in
+    let es = entries ++ at_all t.here (written labels) in
+    subst (λ n. IsSound (rules_of act_of n t'.profile) (in_release landed' t') es) (sym k.localities)
+    (subst (λ p. IsSound (rules_of act_of t.localities p) (in_release landed' t') es) (sym k.profile)
+    (rest_sound (rules_of act_of t.localities t.profile) (record (in_release landed' t') { last = l }) es k.sound))
+
 -- where one step after another leads from rest to rest
 pub turn_stands : (act_of : ℕ → ℕ → ℕ → State → Act → Outcome) (t t' : Tables) (entries : List Entry) (labels : List Label) (l : Option Event)
     → Stands act_of t entries → Steps (rules_of act_of t.localities t.profile) (at_rest t) labels (record (at_rest t') { last = l })
     → Stands act_of t' (entries ++ at_all t.here (written labels))
-turn_stands act_of t t' entries labels l h steps =
-    let k = steps_sound (rules_of act_of t.localities t.profile) (at_rest t) (record (at_rest t') { last = l }) labels entries h steps in
-    let es = entries ++ at_all t.here (written labels) in
-    subst (λ n. IsSound (rules_of act_of n t'.profile) (at_rest t') es) (sym k.localities)
-    (subst (λ p. IsSound (rules_of act_of t.localities p) (at_rest t') es) (sym k.profile)
-    (rest_sound (rules_of act_of t.localities t.profile) (record (at_rest t') { last = l }) es k.sound))
+turn_stands act_of t t' entries labels l h steps = turn_stands_but act_of None None t t' entries labels l h steps
 
 -- where one entry does
 one_stands : (act_of : ℕ → ℕ → ℕ → State → Act → Outcome) (t t' : Tables) (entries : List Entry) (e : Event) → Stands act_of t entries
@@ -36,7 +46,7 @@ module _ (r : Rules) (t t' : Tables) (desk : List Parcel) (taken : ℕ) (came ma
   message_leads : (p : Parcel) → HasInHand p with_message → IsTold r p with_message → IsParcel p → is_far t.localities p ≡ false → broken_near t p ≡ None
       → ((o : Id) → p ≡ Free o → held_here (record t { desk = desk; taken = taken }) o ≡ held_here t o) → ((id : Id) (entry : ℕ) → p ≡ Give id entry → ⊥)
       → IsUsual p
-      → DealsWith p (record t { desk = desk; taken = taken }) t' → Leaves p t t' → Leads r with_message t' (effects t p)
+      → DealsWith p (record t { desk = desk; taken = taken }) t' → Leaves p t t' → Leads r with_message (lands p) t' (effects t p)
   message_leads (Apply act) hand told fit far right held other usual deals leaves = absurd usual
   message_leads (Move act) hand told fit far right held other usual deals leaves = absurd usual
   message_leads (Return id) hand told fit far right held other usual deals leaves =
@@ -60,7 +70,7 @@ module _ (r : Rules) (t t' : Tables) (desk : List Parcel) (taken : ℕ) (came ma
       not_found (Some x) e = cc
   message_leads (Arrived id place) hand told fit far right held other usual deals leaves =
       let k = landed_right t (bare id) id place right in
-      arrived_leads r with_message (record { due = refl; fresh = refl }) t' id place hand fit k.0 k.1 k.2
+      arrived_leads r with_message (record { due = refl; fresh = refl }) t' id place refl hand fit k.0 k.1 k.2
       (search (arith, nat_tests, (none_of (nat_le t.localities id.home) (nat_le t.localities place) far).1)) deals (record { own = leaves.own; others = leaves.others })
 
 -- ---- a frame comes
@@ -75,17 +85,17 @@ module _ (act_of : ℕ → ℕ → ℕ → State → Act → Outcome) (t t' : Ta
 
   -- what is dealt with leads back to rest
   pub frame_stands : (p : Parcel) (bytes : List ℕ) (events : List Event) → parcel_of bytes ≡ Some p → IsParcel p
-      → Leads r (came p bytes) t' events → Stands act_of t' (entries ++ at_all t.here (In bytes ∷ events))
+      → Leads r (came p bytes) (lands p) t' events → StandsBut (lands p) act_of t' (entries ++ at_all t.here (In bytes ∷ events))
   frame_stands p bytes events spelled fit leads =
-      subst (λ es. Stands act_of t' (entries ++ at_all t.here (In bytes ∷ es))) leads.writes
-      (turn_stands act_of t t' entries (Writes (In bytes) ∷ leads.labels) leads.last h (
+      subst (λ es. StandsBut (lands p) act_of t' (entries ++ at_all t.here (In bytes ∷ es))) leads.writes
+      (turn_stands_but act_of None (lands p) t t' entries (Writes (In bytes) ∷ leads.labels) leads.last h (
         came p bytes,
         record { calm = record { due = refl; fresh = refl }; free = record { came = refl; mailed = refl }; parcel = p; spelled = spelled; fit = fit; now = refl },
         leads.steps,
       ))
 
   usual_leads : (p : Parcel) (bytes : List ℕ) → parcel_of bytes ≡ Some p → IsParcel p → broken t p ≡ None → ((id : Id) (entry : ℕ) → p ≡ Give id entry → ⊥) → IsUsual p
-      → DealsWith p (record t { taken = t.taken + 1 }) t' → Leaves p t t' → Leads r (came p bytes) t' (effects t p)
+      → DealsWith p (record t { taken = t.taken + 1 }) t' → Leaves p t t' → Leads r (came p bytes) (lands p) t' (effects t p)
   usual_leads p bytes spelled fit right other =
       message_leads r t t' t.desk (t.taken + 1) (p ∷ []) [] (Some (In bytes)) lasts p (inl (refl, refl)) (inr (refl, refl, (bytes, refl, spelled))) fit (near_right t p right).0 (near_right t p right).1
       (λ o is. refl) other
@@ -93,7 +103,7 @@ module _ (act_of : ℕ → ℕ → ℕ → State → Act → Outcome) (t t' : Ta
   -- a message is dealt with
   pub frame_leads : (p : Parcel) (bytes : List ℕ) → parcel_of bytes ≡ Some p → IsParcel p → broken t p ≡ None
       → ((id : Id) (entry : ℕ) → p ≡ Give id entry → ⊥) → DealsWith p (record t { taken = t.taken + 1 }) t' → Leaves p t t'
-      → Leads r (came p bytes) t' (effects t p)
+      → Leads r (came p bytes) (lands p) t' (effects t p)
   frame_leads (Apply act) bytes spelled fit right other deals leaves =
       act_leads r (came (Apply act) bytes) (record { due = refl; fresh = refl }) t' act (Apply act) (inl refl) (inl (refl, refl)) refl deals
   frame_leads (Move act) bytes spelled fit right other deals leaves =
@@ -113,11 +123,11 @@ module _ (act_of : ℕ → ℕ → ℕ → State → Act → Outcome) (t t' : Ta
   abbrev mailed : Parcel → List Parcel → Turn
   mailed p rest = record (at_rest (record t { desk = rest })) { mailed = p ∷ []; last = Some (Mail (kind_of p)) }
 
-  pub desk_stands : (p : Parcel) (rest : List Parcel) (events : List Event) → t.desk ≡ p ∷ rest → Leads r (mailed p rest) t' events
-      → Stands act_of t' (entries ++ at_all t.here (Mail (kind_of p) ∷ events))
+  pub desk_stands : (p : Parcel) (rest : List Parcel) (events : List Event) → t.desk ≡ p ∷ rest → Leads r (mailed p rest) (lands p) t' events
+      → StandsBut (lands p) act_of t' (entries ++ at_all t.here (Mail (kind_of p) ∷ events))
   desk_stands p rest events first leads =
-      subst (λ es. Stands act_of t' (entries ++ at_all t.here (Mail (kind_of p) ∷ es))) leads.writes
-      (turn_stands act_of t t' entries (Writes (Mail (kind_of p)) ∷ leads.labels) leads.last h (
+      subst (λ es. StandsBut (lands p) act_of t' (entries ++ at_all t.here (Mail (kind_of p) ∷ es))) leads.writes
+      (turn_stands_but act_of None (lands p) t t' entries (Writes (Mail (kind_of p)) ∷ leads.labels) leads.last h (
         mailed p rest,
         record { calm = record { due = refl; fresh = refl }; free = record { came = refl; mailed = refl }; parcel = p; rest = rest; first = first; sort = refl; now = refl },
         leads.steps,
@@ -132,19 +142,19 @@ module _ (act_of : ℕ → ℕ → ℕ → State → Act → Outcome) (t t' : Ta
     popped : (o : Id) → p ≡ Free o → held_here (record t { desk = rest }) o ≡ held_here t o
     popped o is = grind arith
 
-    pub desk_leads : ((id : Id) (entry : ℕ) → p ≡ Give id entry → ⊥) → Accepts p (record t { desk = rest }) t' → Leaves p t t' → Leads r (mailed p rest) t' (effects t p)
+    pub desk_leads : ((id : Id) (entry : ℕ) → p ≡ Give id entry → ⊥) → Accepts p (record t { desk = rest }) t' → Leaves p t t' → Leads r (mailed p rest) (lands p) t' (effects t p)
     desk_leads = each p its.0 its.1 (near_right t p right).0 (near_right t p right).1 popped
       where
         usual : (q : Parcel) → IsParcel q → is_far t.localities q ≡ false → broken_near t q ≡ None → ((o : Id) → q ≡ Free o → held_here (record t { desk = rest }) o ≡ held_here t o)
-            → ((id : Id) (entry : ℕ) → q ≡ Give id entry → ⊥) → IsUsual q → DealsWith q (record t { desk = rest }) t' → Leaves q t t' → Leads r (mailed q rest) t' (effects t q)
+            → ((id : Id) (entry : ℕ) → q ≡ Give id entry → ⊥) → IsUsual q → DealsWith q (record t { desk = rest }) t' → Leaves q t t' → Leads r (mailed q rest) (lands q) t' (effects t q)
         usual q fit far near held other =
             message_leads r t t' rest t.taken [] (q ∷ []) (Some (Mail (kind_of q))) lasts q (inr (refl, refl)) (inl (refl, refl, refl)) fit far near held other
 
         each : (q : Parcel) → IsParcel q → IsForHere t.localities t.here q → is_far t.localities q ≡ false → broken_near t q ≡ None → ((o : Id) → q ≡ Free o → held_here (record t { desk = rest }) o ≡ held_here t o)
-            → ((id : Id) (entry : ℕ) → q ≡ Give id entry → ⊥) → Accepts q (record t { desk = rest }) t' → Leaves q t t' → Leads r (mailed q rest) t' (effects t q)
-        each (Apply act) fit for far near held other deals leaves = own_leads r (mailed (Apply act) rest) (record { due = refl; fresh = refl }) t' act (Apply act) (inl refl) (inr (refl, refl))
+            → ((id : Id) (entry : ℕ) → q ≡ Give id entry → ⊥) → Accepts q (record t { desk = rest }) t' → Leaves q t t' → Leads r (mailed q rest) (lands q) t' (effects t q)
+        each (Apply act) fit for far near held other deals leaves = own_leads r (mailed (Apply act) rest) (record { due = refl; fresh = refl }) t' act (Apply act) (inl refl) (inr (refl, refl)) refl
             (λ a e lost. let same : act ≡ a = cc in subst (λ (b : Act). away_here t (target_of b) ≡ true) same (parked_away t act fit.code far for near (root_stays (at_rest t) h.tidy (target_of act)) lost)) deals
-        each (Move act) fit for far near held other deals leaves = own_leads r (mailed (Move act) rest) (record { due = refl; fresh = refl }) t' act (Move act) (inr refl) (inr (refl, refl)) (λ a e lost. cc) deals
+        each (Move act) fit for far near held other deals leaves = own_leads r (mailed (Move act) rest) (record { due = refl; fresh = refl }) t' act (Move act) (inr refl) (inr (refl, refl)) refl (λ a e lost. cc) deals
         each (Return id) fit for far near held other deals leaves = usual (Return id) fit far near held other tt deals leaves
         each (Ask id asker entry) fit for far near held other deals leaves = usual (Ask id asker entry) fit far near held other tt deals leaves
         each (Give id entry) fit for far near held other deals leaves = usual (Give id entry) fit far near held other tt deals leaves
@@ -206,15 +216,16 @@ module _ (act_of : ℕ → ℕ → ℕ → State → Act → Outcome) (t t' : Ta
       )
 
 -- what waits for an object goes its way
-pub released_stands : (act_of : ℕ → ℕ → ℕ → State → Act → Outcome) (n : ℕ) (o : Id) (t : Tables) (entries : List Entry) → Stands act_of t entries → Stands act_of (with_released n o t) entries
-released_stands act_of zero o t entries h = h
-released_stands act_of (suc n) o t entries h = if_so (is_some (moving_here t o)) (λ m. rw m h) (λ m. rw m (each (λ u k. released_stands act_of n o u entries k) (find (is_for o.number) t.queued) refl))
+pub released_stands : (act_of : ℕ → ℕ → ℕ → State → Act → Outcome) (landed : Option Id) (n : ℕ) (o : Id) (t : Tables) (entries : List Entry) → StandsBut landed act_of t entries
+    → StandsBut landed act_of (with_released n o t) entries
+released_stands act_of landed zero o t entries h = h
+released_stands act_of landed (suc n) o t entries h = if_so (is_some (moving_here t o)) (λ m. rw m h) (λ m. rw m (each (λ u k. released_stands act_of landed n o u entries k) (find (is_for o.number) t.queued) refl))
   where
-    one : (w : Waiting Parcel) → find (is_for o.number) t.queued ≡ Some w → Stands act_of (with_act (act_in w.item) (record t { queued = without_first o.number t.queued })) entries
+    one : (w : Waiting Parcel) → find (is_for o.number) t.queued ≡ Some w → StandsBut landed act_of (with_act (act_in w.item) (record t { queued = without_first o.number t.queued })) entries
     one w e =
         let u : Tables = with_act (act_in w.item) (record t { queued = without_first o.number t.queued }) in
-        subst (Stands act_of u) (append-nil entries) (turn_stands act_of t u entries (Release ∷ []) None h (
-          at_rest u,
+        subst (StandsBut landed act_of u) (append-nil entries) (turn_stands_but act_of landed landed t u entries (Release ∷ []) None h (
+          in_release landed u,
           record { number = o.number; first = w; act = act_in w.item; there = e; brings = its w.item (h.tidy (Queued w) (found_among (is_for o.number) t.queued w e)).1; now = refl },
           refl,
         ))
@@ -231,7 +242,15 @@ released_stands act_of (suc n) o t entries h = if_so (is_some (moving_here t o))
         its (Arrived id place) k = absurd k
         its (Free id) k = absurd k
 
-    each : ((u : Tables) → Stands act_of u entries → Stands act_of (with_released n o u) entries) → (w : Option (Waiting Parcel)) → find (is_for o.number) t.queued ≡ w
-        → Stands act_of (released_by t o (with_released n o) w) entries
+    each : ((u : Tables) → StandsBut landed act_of u entries → StandsBut landed act_of (with_released n o u) entries) → (w : Option (Waiting Parcel)) → find (is_for o.number) t.queued ≡ w
+        → StandsBut landed act_of (released_by t o (with_released n o) w) entries
     each more None e = h
     each more (Some w) e = more (with_act (act_in w.item) (record t { queued = without_first o.number t.queued })) (one w e)
+
+-- and once all has gone that was to, it is at rest
+pub settled_stands : (act_of : ℕ → ℕ → ℕ → State → Act → Outcome) (o : Id) (t : Tables) (entries : List Entry) → StandsBut (Some o) act_of t entries
+    → ((w : Waiting Parcel) → Among w t.queued → bare (target_of (act_in w.item)) ≡ o → (x : Record) → record_here t (target_of (act_in w.item)) ≡ Some x → is_some x.moving ≡ true)
+    → Stands act_of t entries
+settled_stands act_of o t entries h moves =
+    subst (Stands act_of t) (append-nil entries)
+    (turn_stands_but act_of (Some o) None t t entries (Settle ∷ []) None h (at_rest t, record { o = o; landed = refl; moves = moves; now = refl }, refl))

@@ -197,6 +197,11 @@ Leaves _ t t' = Unit {0}
 
 -- ---- what is done behind it
 
+-- of which object a message tells that it has landed: what waits for that is released
+abbrev pub lands : Parcel → Option Id
+lands (Arrived id place) = Some (bare id)
+lands p = None
+
 -- the action of a message that waits
 abbrev pub act_in : Parcel → Act
 act_in (Apply act) = act

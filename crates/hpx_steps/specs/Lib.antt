@@ -13,3 +13,4 @@ pub mod Limits
 pub mod Left
 pub mod Ways
 pub mod Flows
+pub mod Homes

@@ -1,5 +1,5 @@
 -- What holds between turns of the tables of a locality and its part of the journal, told of the tables alone.
-use Rattle.std.specs.Prelude.{ℕ, true, false, cond, List, [], ◌++◌, ◌≡◌, ◌≢◌, ◌≤◌, ◌<◌, ◌+◌, ◌==◌, map, flat_map, length, Some, None, IfSome, ◌⊎◌}
+use Rattle.std.specs.Prelude.{ℕ, true, false, cond, List, [], ◌++◌, ◌≡◌, ◌≢◌, ◌≤◌, ◌<◌, ◌+◌, ◌==◌, map, flat_map, length, Some, None, IfSome, ◌⊎◌, Option}
 use Rattle.std.specs.List.{sum_by, count_by, find, list_any, AllByRecursion}
 use Rattle.hpx_value.specs.Hands.{id_at, session}
 use Rattle.hpx_value.specs.Ids.{bare, same_object}
@@ -32,10 +32,11 @@ use Rattle.hpx_steps.specs.Frames.{IsOnItsWay, IsForHere}
 use Rattle.hpx_steps.specs.Paused.{Apart, Single, HasSplit, bare_names, names_of}
 use Rattle.hpx_steps.specs.Rows.{Row, TellsOf, IsRowAt, Actions, Landeds, AreFired, goes, causes, spends, starts, weight, owes, brings, follows, tells_at, tell_of, one_if}
 use Rattle.hpx_steps.specs.Sound.{IsOwn, IsWaitingFor, IsGranted, IsStray, IsLive, SendsOwn, all_count, gone, gone_to, come, asks_for, gives_for, IsSound, grants_of, grants_gone, away_here, leads_on, brought, moved_by}
-use Rattle.hpx_steps.specs.Turn.{at_rest, bare_due, bare_standing, counted, parcel_tokens, parcel_acts, parcel_travels, parcel_asks, parcel_frees, tokens_of}
+use Rattle.hpx_steps.specs.Turn.{at_rest, in_release, bare_due, bare_standing, counted, parcel_tokens, parcel_acts, parcel_travels, parcel_asks, parcel_frees, tokens_of}
 use Rattle.hpx_steps.specs.Calls.{act_in}
 use Rattle.hpx_steps.specs.Items.{Among, weigh}
 use Rattle.hpx_steps.specs.Flows.{IsFlowing}
+use Rattle.hpx_steps.specs.Homes.{HasHomes}
 use Rattle.hpx_journal.specs.Moving.{is_landed_of}
 
 -- ---- what is seen
@@ -265,17 +266,22 @@ rules_of act_of n profile = record {
 }
 
 -- the same in one: nothing is due, each id is named, own messages are in order, each move was granted, each object is where
--- it was told to be, the MOVE with which an object came is here and not done, and what waits lacks something
+-- it was told to be, what waits for an object waits while it moves, the MOVE with which an object came is here and not done, and what waits lacks something
 pub record StandsAtRest (r : Rules) (t : Tables) (entries : List Entry) : Type 0 where
   pub stands : StandsWith r t [] [] entries
   pub orderly : IsOrderly r t (part t.here entries)
   pub begun : MovesBegan r t (part t.here entries)
   pub placed : ArePlaced r t (part t.here entries)
   pub flowing : IsFlowing r (at_rest t) (part t.here entries)
+  pub homes : HasHomes r (at_rest t) (part t.here entries)
   pub bare : AllByRecursion (λ (a : Arrival). a.object.log ≡ None) t.came
   pub arrived : (a : Arrival) → weigh (brought a) (at_rest t) ≤ weigh (moved_by a) (at_rest t)
   pub lacks : Lacks t
 
--- all that holds of a turn holds of these tables at rest, by their own rules
+-- all that holds of a turn holds of these tables while what waits for this object is released, if one has landed; by their own rules
+abbrev pub StandsBut : Option Id → (ℕ → ℕ → ℕ → State → Act → Outcome) → Tables → List Entry → Type 0
+StandsBut landed act_of t entries = IsSound (rules_of act_of t.localities t.profile) (in_release landed t) entries
+
+-- and at rest, by their own rules
 abbrev pub Stands : (ℕ → ℕ → ℕ → State → Act → Outcome) → Tables → List Entry → Type 0
 Stands act_of t entries = IsSound (rules_of act_of t.localities t.profile) (at_rest t) entries

@@ -27,11 +27,13 @@ use Rattle.hpx_commit.specs.Deals.{half}
 use Rattle.hpx_tables.specs.Births.{IsBirth, birth_of}
 use Rattle.hpx_tables.specs.Fit.{IsKept, IsFitDue}
 use Rattle.hpx_tables.specs.Awaited.{answered_by}
-use Rattle.hpx_tables.specs.Kept.{held_here, waits_here, stays_here}
+use Rattle.hpx_tables.specs.Kept.{held_here, record_here, waits_here, stays_here}
 use Rattle.hpx_tables.specs.Merged.{may_merge, merged_in}
 use Rattle.hpx_tables.specs.Pending.{Waits, Refills, awaits, waits_with, ids_named, fired_of}
 use Rattle.hpx_tables.specs.declared.kept.Arrival.{Arrival}
 use Rattle.hpx_tables.specs.declared.kept.Outgoing.{Outgoing}
+use Rattle.hpx_steps.specs.Calls.{act_in}
+use Rattle.hpx_steps.specs.Items.{Among}
 use Rattle.hpx_steps.specs.Paused.{HasSplit}
 use Rattle.hpx_steps.specs.Turn.{Turn, commits, tokens_of, bare_due, bare_standing}
 use Rattle.hpx_steps.specs.Rows.{kind_of}
@@ -382,7 +384,7 @@ pub record TakesBack (s : Turn) (o : Id) (count log : ℕ) (s' : Turn) : Type 0 
   pub recounts : Recounts id old (lowered old id) s.tables.records records
   pub now : s' ≡ wrote (Count o count (Returned log)) (mails_if (count == 0) old.place (Free (bare id)) (with_records records (drops s)))
 
--- an object has landed: its record says so, and then that the credit came home that told it
+-- an object has landed: its record says so, and then that the credit came home that told it; what waits for it is to be released
 pub record Arrives (s : Turn) (o : Id) (count log : ℕ) (s' : Turn) : Type 0 where
   pub calm : IsCalm s
   pub id : Id
@@ -393,11 +395,12 @@ pub record Arrives (s : Turn) (o : Id) (count log : ℕ) (s' : Turn) : Type 0 wh
   pub object : o ≡ bare id
   pub home : id.home ≡ s.tables.here
   pub has : id.log ≡ Some log
+  pub alone : s.landed ≡ None
   pub moving : old.moving ≡ Some place
   pub near : place < s.tables.localities
   pub sum : count + 2 ^ log ≡ old.count
   pub recounts : Recounts id old (lowered (record old { place = place; moving = None }) id) s.tables.records records
-  pub now : s' ≡ wrote (Count o count (Returned log)) (mails_if (count == 0) place (Free (bare id)) (with_records records (drops s)))
+  pub now : s' ≡ wrote (Count o count (Returned log)) (mails_if (count == 0) place (Free (bare id)) (with_records records (record (drops s) { landed = Some (bare id) })))
 
 -- more credit is asked for: it is granted, and the record raised
 pub record Grants (s : Turn) (o : Id) (count : ℕ) (s' : Turn) : Type 0 where
@@ -547,6 +550,7 @@ pub record Marks (s s' : Turn) : Type 0 where
 pub record Parks (s s' : Turn) : Type 0 where
   pub parcel : Parcel
   pub sort : IsStray parcel
+  pub own : (act : Act) → (parcel ≡ Apply act) ⊎ (parcel ≡ Move act) → s.came ≡ []
   pub away : (act : Act) → parcel ≡ Apply act → away_here s.tables (target_of act) ≡ true
   pub strange : (act : Act) (state : State) → parcel ≡ Shipped act state
       → (is_to s.tables.here (move_to act) ≡ false) ⊎ (((target_of act).home ≡ s.tables.here) × (s.tables.births < (target_of act).number))
@@ -561,6 +565,14 @@ pub record Releases (s s' : Turn) : Type 0 where
   pub there : find (is_for number) s.tables.queued ≡ Some first
   pub brings : (first.item ≡ Apply act) ⊎ (first.item ≡ Move act)
   pub now : s' ≡ posts act (record s { tables = record s.tables { queued = without_first number s.tables.queued } })
+
+-- what waited for an object that landed is released: nothing waits for it any more, or its record, if there still is one, says that it moves
+pub record Settles (s s' : Turn) : Type 0 where
+  pub o : Id
+  pub landed : s.landed ≡ Some o
+  pub moves : (w : Waiting Parcel) → Among w s.tables.queued → bare (target_of (act_in w.item)) ≡ o
+      → (x : Record) → record_here s.tables (target_of (act_in w.item)) ≡ Some x → is_some x.moving ≡ true
+  pub now : s' ≡ record s { landed = None }
 
 -- the objects that stand here are in another order
 pub record Reorders (s s' : Turn) : Type 0 where
@@ -579,6 +591,7 @@ pub data Label : Type 0 where
   Mark : Label
   Park : Label
   Release : Label
+  Settle : Label
   Reorder : Label
 
 -- one step
@@ -611,6 +624,7 @@ Step r s Place s' = Places s s'
 Step r s Mark s' = Marks s s'
 Step r s Park s' = Parks s s'
 Step r s Release s' = Releases s s'
+Step r s Settle s' = Settles s s'
 Step r s Reorder s' = Reorders s s'
 
 -- one step after another

@@ -25,11 +25,16 @@ pub record Turn : Type 0 where
   pub due : List Due  -- what the last Done leaves due
   pub loose : List Id  -- ids that are named nowhere
   pub untold : List Id  -- objects that came with a MOVE that is done, of which their homes are not told yet
+  pub landed : Option Id  -- an object that has landed by its record now, while what waits for it is released
   pub last : Option Event  -- the last entry, where it is known
 
 -- between turns
 abbrev pub at_rest : Tables → Turn
-at_rest t = record { tables = t; came = []; mailed = []; working = []; fresh = []; due = []; loose = []; untold = []; last = None }
+at_rest t = record { tables = t; came = []; mailed = []; working = []; fresh = []; due = []; loose = []; untold = []; landed = None; last = None }
+
+-- the same while what waits for an object that landed is released, if one did
+abbrev pub in_release : Option Id → Tables → Turn
+in_release landed t = record (at_rest t) { landed = landed }
 
 -- the commits, in work or waiting
 abbrev pub commits : Turn → List Waits

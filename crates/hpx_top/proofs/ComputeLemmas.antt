@@ -20,8 +20,9 @@ use Rattle.app_compute.proofs.RingLines as Lines
 use Rattle.app_compute.proofs.StencilText as ring
 use Rattle.hpx_top.specs.declared.session.SessionFault.{SessionFault}
 use Rattle.hpx_top.specs.declared.session.SessionFault.TheVariants.{Read, Write, Fabric, JournalFull, OutOfMemory, BadFrame, Strange, InputFull}
+use Rattle.hpx_top.specs.declared.consoles.UserConsole.{UserConsole}
 use Rattle.hpx_top.specs.declared.task.Task.{Task}
-use Rattle.hpx_top.specs.declared.task.Task.TheVariants.{Accumulator, Fib, Stencil}
+use Rattle.hpx_top.specs.declared.task.Task.TheVariants.{Console, Fib, Stencil}
 use Rattle.hpx_top.specs.Acts.{act_of}
 use Rattle.hpx_top.specs.Usage.{IsTask}
 use Rattle.hpx_top.specs.Session.{rules, lines_fed, Feeds, FeedsAtMost, WritesFront, entries_in}
@@ -56,7 +57,7 @@ some_same x y e = cc
 
 pub task_prints : (task : Task) (n : ℕ) (p : Profile) (line : List ℕ) (es : List Entry) → IsTask task → task_line task ≡ Some line → 1 ≤ n → n ≤ 64
     → NoneFails es → Feeds (rules_of act_of n p) line [] es → prints_of es ≡ task_texts task
-task_prints Accumulator n p line es h is some few calm f = absurd (let no : None ≡ Some line = is in cc)
+task_prints (Console console) n p line es h is some few calm f = absurd (let no : None ≡ Some line = is in cc)
 task_prints (Fib question) n p line es h is some few calm f =
     let same : fed_line question.number question.threshold ≡ line = some_same (fed_line question.number question.threshold) line is in
     fib_prints n p question.number question.threshold es some few h calm (subst (λ l. Feeds (rules_of act_of n p) l [] es) (sym same) f)
@@ -78,19 +79,14 @@ fib_short number threshold h =
     )
 
 pub line_short : (task : Task) (line : List ℕ) → IsTask task → task_line task ≡ Some line → length line ≤ 1025
-line_short Accumulator line h is = absurd (let no : None ≡ Some line = is in cc)
+line_short (Console console) line h is = absurd (let no : None ≡ Some line = is in cc)
 line_short (Fib question) line h is =
     subst (λ l. length l ≤ 1025) (some_same (fed_line question.number question.threshold) line is) (fib_short question.number question.threshold h)
 line_short (Stencil shape) line h is =
     subst (λ l. length l ≤ 1025) (some_same (ring_fed shape.points shape.parts shape.steps) line is) (Lines.line_short shape.points shape.parts shape.steps h)
 
-pub no_line : (task : Task) → task_line task ≡ None → task ≡ Accumulator
-no_line Accumulator is = refl
-no_line (Fib question) is = cc
-no_line (Stencil shape) is = cc
-
-pub no_console : (task : Task) (line : List ℕ) → task_line task ≡ Some line → task ≡ Accumulator → ⊥
-no_console task line is e = let no : None ≡ Some line = ap task_line (sym e) ∙ is in cc
+pub no_console : (task : Task) (line : List ℕ) → task_line task ≡ Some line → (console : UserConsole) → task ≡ Console console → ⊥
+no_console task line is console e = let no : None ≡ Some line = ap task_line (sym e) ∙ is in cc
 
 -- ---- where it ends
 

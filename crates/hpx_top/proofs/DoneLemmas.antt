@@ -14,7 +14,9 @@ use Rattle.hpx_top.specs.declared.session.SessionFault.{SessionFault}
 use Rattle.hpx_top.specs.declared.session.SessionFault.TheVariants.{Read, Write, Fabric, JournalFull, OutOfMemory, BadFrame, Strange, InputFull}
 use Rattle.hpx_top.specs.declared.task.Notice.{Notice}
 use Rattle.hpx_top.specs.declared.task.Setup.{Setup}
+use Rattle.hpx_top.specs.declared.consoles.UserConsole.{UserConsole}
 use Rattle.hpx_top.specs.declared.task.Task.{Task}
+use Rattle.hpx_top.specs.declared.task.Task.TheVariants.{Console}
 use Rattle.hpx_top.specs.Computed.{HasComputed, IsAnswered, IsUnanswered, task_line, task_texts}
 use Rattle.hpx_top.specs.Printed.{HasTold, counters_text, notice_text, takes_memory}
 use Rattle.hpx_top.specs.Runs.{Errors, Ports, HasCause, HasDone, HasRun, HasServed, IsLawful, NothingFailed, Says}
@@ -28,27 +30,31 @@ use Rattle.hpx_top.proofs.RunLemmas.{at, lawful_calm, served_none}
 use Rattle.hpx_top.proofs.LineLemmas.{followed_nothing, front_all}
 use Rattle.hpx_top.proofs.ShowLemmas.{nothing_said}
 
-one_line : {X : Type 0} (o : Option X) (x : X) → o ≡ None → o ≡ Some x → ⊥
-one_line o x none some = cc
-
 -- what the journal tells, told of the world that there is
 told_in : (o : Option Places) (n : ℕ) (p : Profile) (flight : Option (List Frame)) (trace : Option (List Wire))
     → IfSome o (λ w. (length w.nodes ≡ n) × (w.profile ≡ p)) → IfSome o (λ w. IsLawful w flight trace) → NoneRefused p (entries_in o) → NoneFails (entries_in o)
 told_in None n p flight trace is law none = refl
 told_in (Some w) n p flight trace is law none = lawful_calm w flight trace p is.1 law none
 
+same_console : (x y : UserConsole) → Console x ≡ Console y → x ≡ y
+same_console x y e = cc
+
 -- a console has no line of its own
-pub console_done : (task : Task) (n : ℕ) (p : Profile) (s : ℕ) (o : Option Places) (x z : Ports) (flight : Option (List Frame)) (trace : Option (List Wire))
-    → task_line task ≡ None → IfSome o (λ w. (length w.nodes ≡ n) × (w.profile ≡ p)) → IfSome o (λ w. IsLawful w flight trace)
-    → ((input : List ℕ) (said : Said) → x.left ≡ Some input → Tells n (entries_in o) said → HasServed said s input o x z) → HasDone task n p s o x z
-console_done task n p s o x z flight trace none is law served = record {
-  shown = λ line own. absurd (one_line (task_line task) line none own);
-  computed = λ granted line own. absurd (one_line (task_line task) line none own);
-  unread = λ line own. absurd (one_line (task_line task) line none own);
-  no_read = λ line own. absurd (one_line (task_line task) line none own);
-  reads = λ input h. (served input (shown_in (entries_in o)) h (inl refl)).reads;
-  served = λ console input h. served input (shown_in (entries_in o)) h (inl refl);
-  served_plainly = λ granted console input h. served input (lines_text n) h (inr (told_in o n p flight trace is law granted, refl));
+pub console_done : (task : Task) (console : UserConsole) (n : ℕ) (p : Profile) (s : ℕ) (o : Option Places) (x z : Ports) (flight : Option (List Frame))
+    (trace : Option (List Wire)) → task ≡ Console console → IfSome o (λ w. (length w.nodes ≡ n) × (w.profile ≡ p)) → IfSome o (λ w. IsLawful w flight trace)
+    → ((input : List ℕ) (said : Said) → x.left ≡ Some input → Tells console n (entries_in o) said → HasServed console said s input o x z) → HasDone task n p s o x z
+console_done task console n p s o x z flight trace is places law served = record {
+  shown = λ line own. absurd (no_console task line own console is);
+  computed = λ granted line own. absurd (no_console task line own console is);
+  unread = λ line own. absurd (no_console task line own console is);
+  no_read = λ line own. absurd (no_console task line own console is);
+  reads = λ input h. (served input (shown_in console (entries_in o)) h (inl refl)).reads;
+  served = λ other at input h.
+      subst (λ c. HasServed c (shown_in c (entries_in o)) s input o x z) (same_console console other (sym is ∙ at))
+      (served input (shown_in console (entries_in o)) h (inl refl));
+  served_plainly = λ granted other at input h.
+      subst (λ c. HasServed c (lines_text c n) s input o x z) (same_console console other (sym is ∙ at))
+      (served input (lines_text console n) h (inr (told_in o n p flight trace places law granted, refl)));
 }
 
 -- what is printed of a task with a line of its own, where no ask was refused
@@ -81,8 +87,8 @@ computed_done setup line r o x z flight trace h own is law none same ok err left
   unread = λ other at. (left, taken, faults);
   no_read = λ other at. (no_read, no_input);
   reads = λ input there. rw (left, taken) (read_from_none input x.left x.taken there);
-  served = λ console. absurd (no_console setup.task line own console);
-  served_plainly = λ granted console. absurd (no_console setup.task line own console);
+  served = λ console is. absurd (no_console setup.task line own console is);
+  served_plainly = λ granted console is. absurd (no_console setup.task line own console is);
 }
 
 -- without a world, for want of memory, nothing was done
@@ -93,8 +99,8 @@ none_done task n p r x e = record {
   unread = λ line is. (refl, refl, refl);
   no_read = λ line is. subst (λ q. (status_after q ≢ 2) × (status_after q ≢ 9)) (sym e) (λ s. absurd (omega arith), λ s. absurd (omega arith));
   reads = λ input h. read_from_none input x.left x.taken h;
-  served = λ console input h. served_none (shown_in []) r input x e h;
-  served_plainly = λ granted console input h. served_none (lines_text n) r input x e h;
+  served = λ console is input h. served_none (shown_in console []) r input x e h;
+  served_plainly = λ granted console is input h. served_none (lines_text console n) r input x e h;
 }
 
 -- ---- a setup

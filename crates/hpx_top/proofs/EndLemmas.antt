@@ -6,6 +6,7 @@ use Rattle.std.proofs.Common.{ℕ, Bool, true, false, List, [], ◌∷◌, ◌++
 use Rattle.hpx_journal.specs.declared.entry.Entry.{Entry}
 use Rattle.hpx_ports.specs.Told.{preceded, followed}
 use Rattle.app_console.specs.Lines.{IsFront, is_quit, is_newline, before_quit, lines_in, lines_of, quits}
+use Rattle.hpx_top.specs.declared.consoles.UserConsole.{UserConsole}
 use Rattle.hpx_top.specs.Texts.{Said, fed, text_by}
 use Rattle.hpx_top.specs.Reader.{Reading, HasRead, IsOut, input_left, lines_left, behind_line, behind}
 use Rattle.hpx_top.specs.declared.session.SessionFault.{SessionFault}
@@ -19,18 +20,18 @@ handed : (input : List ℕ) (left : Option (List (List ℕ))) (lines rest : List
     → lines_in (slice_split is_newline input) ≡ lines ++ rest → lines_of input ≡ lines ++ before_quit rest
 handed input left lines rest goes_on is = ap before_quit is ∙ before_quit_append lines rest goes_on
 
-pub whole_at_end : (said : Said) (ended : Bool) (input : List ℕ) (entries : List Entry) (old new : Option (List ℕ))
-    → IsOver said ended (Some (lines_in (slice_split is_newline input))) old entries new → IsWhole said input entries old new
-whole_at_end said ended input entries old new o =
+pub whole_at_end : {console : UserConsole} (said : Said) (ended : Bool) (input : List ℕ) (entries : List Entry) (old new : Option (List ℕ))
+    → IsOver console said ended (Some (lines_in (slice_split is_newline input))) old entries new → IsWhole console said input entries old new
+whole_at_end {console} said ended input entries old new o =
     let rest = told_rest (lines_in (slice_split is_newline input)) o.lines o.left o.handled.first in
     let last : before_quit rest.0 ≡ [] = subst (λ l. IfSome l (λ others. before_quit others ≡ [])) rest.1 o.last in
     let all : lines_of input ≡ o.lines
     = handed input o.left o.lines rest.0 o.handled.goes_on rest.2 ∙ (ap (λ t. o.lines ++ t) last ∙ append-nil o.lines) in
-    record { lines = o.journal ∙ ap fed (sym all); text = o.held ∙ ap (λ ls. followed old (text_by said ls)) (sym all) }
+    record { lines = o.journal ∙ ap (fed console) (sym all); text = o.held ∙ ap (λ ls. followed old (text_by console said ls)) (sym all) }
 
-pub broken_at : (said : Said) (most : ℕ) (input : List ℕ) (entries : List Entry) (old new : Option (List ℕ))
-    → IsCut said most (Some (lines_in (slice_split is_newline input))) old entries new → IsBrokenOff said most input entries old new
-broken_at said most input entries old new c =
+pub broken_at : {console : UserConsole} (said : Said) (most : ℕ) (input : List ℕ) (entries : List Entry) (old new : Option (List ℕ))
+    → IsCut console said most (Some (lines_in (slice_split is_newline input))) old entries new → IsBrokenOff console said most input entries old new
+broken_at {console} said most input entries old new c =
     let rest = told_rest (lines_in (slice_split is_newline input)) (c.lines ++ c.next) c.left c.handled.first in
     record {
       handled = c.lines;
@@ -42,9 +43,9 @@ broken_at said most input entries old new c =
       text = c.held;
     }
 
-pub broken_in : (said : Said) (input : List ℕ) (entries : List Entry) (old new : Option (List ℕ))
-    → IsCutIn said (Some (lines_in (slice_split is_newline input))) old entries new → IsBrokenIn said input entries old new
-broken_in said input entries old new c =
+pub broken_in : {console : UserConsole} (said : Said) (input : List ℕ) (entries : List Entry) (old new : Option (List ℕ))
+    → IsCutIn console said (Some (lines_in (slice_split is_newline input))) old entries new → IsBrokenIn console said input entries old new
+broken_in {console} said input entries old new c =
     let lines = c.lines ++ c.line ∷ [] in
     let rest = told_rest (lines_in (slice_split is_newline input)) lines c.left c.handled.first in
     record {
@@ -57,9 +58,9 @@ broken_in said input entries old new c =
       text = c.held;
     }
 
-pub begun_at : (said : Said) (input : List ℕ) (entries : List Entry) (old new : Option (List ℕ)) → Grows said
-    → IsUnderWay said (Some (lines_in (slice_split is_newline input))) old entries new → IsBegun said input entries old new
-begun_at said input entries old new front u =
+pub begun_at : {console : UserConsole} (said : Said) (input : List ℕ) (entries : List Entry) (old new : Option (List ℕ)) → Grows console said
+    → IsUnderWay console said (Some (lines_in (slice_split is_newline input))) old entries new → IsBegun console said input entries old new
+begun_at {console} said input entries old new front u =
     let rest = told_rest (lines_in (slice_split is_newline input)) u.lines u.left u.handled.first in
     let first : lines_of input ≡ u.lines ++ before_quit rest.0 = handed input u.left u.lines rest.0 u.handled.goes_on rest.2 in
     record {
@@ -70,29 +71,29 @@ begun_at said input entries old new front u =
       text = u.written.front;
       is = u.written.held;
       theirs = u.written.begins;
-      begins = front_then u.written.front (text_by said u.lines) (text_by said (lines_of input)) u.written.begins
-          (subst (λ ls. IsFront (text_by said u.lines) (text_by said ls)) (sym first) (front u.lines (before_quit rest.0)));
+      begins = front_then u.written.front (text_by console said u.lines) (text_by console said (lines_of input)) u.written.begins
+          (subst (λ ls. IsFront (text_by console said u.lines) (text_by console said ls)) (sym first) (front u.lines (before_quit rest.0)));
       almost = u.almost;
     }
 
 -- nothing was done yet
-pub begun_nothing : (said : Said) (input : List ℕ) (entries : List Entry) (old new : Option (List ℕ)) → entries ≡ [] → new ≡ old → IsBegun said input entries old new
-begun_nothing said input entries old new empty same = record {
+pub begun_nothing : {console : UserConsole} (said : Said) (input : List ℕ) (entries : List Entry) (old new : Option (List ℕ)) → entries ≡ [] → new ≡ old → IsBegun console said input entries old new
+begun_nothing {console} said input entries old new empty same = record {
   handled = [];
   later = lines_of input;
   first = refl;
   lines = inr (ap lines_fed empty, refl);
   text = [];
   is = same ∙ sym (followed_nothing old);
-  theirs = record { later = text_by said []; is = refl };
-  begins = record { later = text_by said (lines_of input); is = refl };
-  almost = inl (ap lines_fed empty);
+  theirs = record { later = text_by console said []; is = refl };
+  begins = record { later = text_by console said (lines_of input); is = refl };
+  almost = inl (ap lines_fed empty, refl);
 }
 
-pub read_up_at : (said : Said) (ended : Bool) (input : List ℕ) (reading : Reading) (left : Option (List ℕ)) (entries : List Entry) (old new : Option (List ℕ))
-    → IsOver said ended (Some (lines_in (slice_split is_newline input))) old entries new → HasRead (Some input) reading left → reading.ended ≡ ended
+pub read_up_at : {console : UserConsole} (said : Said) (ended : Bool) (input : List ℕ) (reading : Reading) (left : Option (List ℕ)) (entries : List Entry) (old new : Option (List ℕ))
+    → IsOver console said ended (Some (lines_in (slice_split is_newline input))) old entries new → HasRead (Some input) reading left → reading.ended ≡ ended
     → IsReadUp input left
-read_up_at said ended input reading left entries old new o h same = up o.read_up
+read_up_at {console} said ended input reading left entries old new o h same = up o.read_up
   where
     up : (ended ≡ true) ⊎ (quits input ≡ true) → IsReadUp input left
     up (inr quit) = inl quit
@@ -132,57 +133,57 @@ read_on_at n input reading left s h all =
 abbrev failed : (T : Type 0) → SessionFault → Result T SessionFault
 failed T f = Err f
 
-begun_cut : (said : Said) (most : ℕ) (input : List ℕ) (entries : List Entry) (old new : Option (List ℕ)) → Grows said → most ≤ 1
-    → IsCut said most (Some (lines_in (slice_split is_newline input))) old entries new → IsBegun said input entries old new
-begun_cut said most input entries old new front one c =
+begun_cut : {console : UserConsole} (said : Said) (most : ℕ) (input : List ℕ) (entries : List Entry) (old new : Option (List ℕ)) → Grows console said → most ≤ 1
+    → IsCut console said most (Some (lines_in (slice_split is_newline input))) old entries new → IsBegun console said input entries old new
+begun_cut {console} said most input entries old new front one c =
     begun_at said input entries old new front (under_cut said most (Some (lines_in (slice_split is_newline input))) old new entries front one c)
 
-begun_in : (said : Said) (input : List ℕ) (entries : List Entry) (old new : Option (List ℕ)) → Grows said
-    → IsCutIn said (Some (lines_in (slice_split is_newline input))) old entries new → IsBegun said input entries old new
-begun_in said input entries old new front c =
+begun_in : {console : UserConsole} (said : Said) (input : List ℕ) (entries : List Entry) (old new : Option (List ℕ)) → Grows console said
+    → IsCutIn console said (Some (lines_in (slice_split is_newline input))) old entries new → IsBegun console said input entries old new
+begun_in {console} said input entries old new front c =
     begun_at said input entries old new front (under_in said (Some (lines_in (slice_split is_newline input))) old new entries front c)
 
-pub ended_at : (said : Said) (f : SessionFault) (input : List ℕ) (entries : List Entry) (old new : Option (List ℕ)) → Grows said
-    → IsCutBy f said (Some (lines_in (slice_split is_newline input))) old entries new → IsEndedBy f said input entries old new
-ended_at said Write input entries old new front c = begun_at said input entries old new front c
-ended_at said Read input entries old new front c = broken_at said 0 input entries old new c
-ended_at said InputFull input entries old new front c = broken_at said 0 input entries old new c
-ended_at said Fabric input entries old new front c = inl (broken_in said input entries old new c)
-ended_at said JournalFull input entries old new front c = inl (broken_in said input entries old new c)
-ended_at said BadFrame input entries old new front c = inl (broken_in said input entries old new c)
-ended_at said Strange input entries old new front c = inl (broken_in said input entries old new c)
-ended_at said OutOfMemory input entries old new front c = inl (broken_at said 1 input entries old new c)
+pub ended_at : (console : UserConsole) (said : Said) (f : SessionFault) (input : List ℕ) (entries : List Entry) (old new : Option (List ℕ)) → Grows console said
+    → IsCutBy console f said (Some (lines_in (slice_split is_newline input))) old entries new → IsEndedBy console f said input entries old new
+ended_at console said Write input entries old new front c = begun_at said input entries old new front c
+ended_at console said Read input entries old new front c = broken_at said 0 input entries old new c
+ended_at console said InputFull input entries old new front c = broken_at said 0 input entries old new c
+ended_at console said Fabric input entries old new front c = inl (broken_in said input entries old new c)
+ended_at console said JournalFull input entries old new front c = inl (broken_in said input entries old new c)
+ended_at console said BadFrame input entries old new front c = inl (broken_in said input entries old new c)
+ended_at console said Strange input entries old new front c = inl (broken_in said input entries old new c)
+ended_at console said OutOfMemory input entries old new front c = inl (broken_at said 1 input entries old new c)
 
-pub begun_by : (said : Said) (f : SessionFault) (input : List ℕ) (entries : List Entry) (old new : Option (List ℕ)) → Grows said
-    → IsCutBy f said (Some (lines_in (slice_split is_newline input))) old entries new → IsBegun said input entries old new
-begun_by said Write input entries old new front c = begun_at said input entries old new front c
-begun_by said Read input entries old new front c = begun_cut said 0 input entries old new front (omega arith) c
-begun_by said InputFull input entries old new front c = begun_cut said 0 input entries old new front (omega arith) c
-begun_by said Fabric input entries old new front c = begun_in said input entries old new front c
-begun_by said JournalFull input entries old new front c = begun_in said input entries old new front c
-begun_by said BadFrame input entries old new front c = begun_in said input entries old new front c
-begun_by said Strange input entries old new front c = begun_in said input entries old new front c
-begun_by said OutOfMemory input entries old new front c = begun_cut said 1 input entries old new front (omega arith) c
+pub begun_by : {console : UserConsole} (said : Said) (f : SessionFault) (input : List ℕ) (entries : List Entry) (old new : Option (List ℕ)) → Grows console said
+    → IsCutBy console f said (Some (lines_in (slice_split is_newline input))) old entries new → IsBegun console said input entries old new
+begun_by {console} said Write input entries old new front c = begun_at said input entries old new front c
+begun_by {console} said Read input entries old new front c = begun_cut said 0 input entries old new front (omega arith) c
+begun_by {console} said InputFull input entries old new front c = begun_cut said 0 input entries old new front (omega arith) c
+begun_by {console} said Fabric input entries old new front c = begun_in said input entries old new front c
+begun_by {console} said JournalFull input entries old new front c = begun_in said input entries old new front c
+begun_by {console} said BadFrame input entries old new front c = begun_in said input entries old new front c
+begun_by {console} said Strange input entries old new front c = begun_in said input entries old new front c
+begun_by {console} said OutOfMemory input entries old new front c = begun_cut said 1 input entries old new front (omega arith) c
 
 -- while the accumulator was made
-pub opening_broken : (entries : List Entry) (old new : Option (List ℕ)) → IsCutAtOpening old entries new → IsBrokenAtOpening entries old new
-opening_broken entries old new c = record { lines = c.journal; text = c.held }
+pub opening_broken : {console : UserConsole} (entries : List Entry) (old new : Option (List ℕ)) → IsCutAtOpening console old entries new → IsBrokenAtOpening console entries old new
+opening_broken {console} entries old new c = record { only = c.only; lines = c.journal; text = c.held }
 
-pub begun_opening : (said : Said) (input : List ℕ) (entries : List Entry) (old new : Option (List ℕ)) → Grows said → said [] ≡ [] → IsCutAtOpening old entries new
-    → IsBegun said input entries old new
-begun_opening said input entries old new front none c =
+pub begun_opening : {console : UserConsole} (said : Said) (input : List ℕ) (entries : List Entry) (old new : Option (List ℕ)) → Grows console said → said [] ≡ [] → IsCutAtOpening console old entries new
+    → IsBegun console said input entries old new
+begun_opening {console} said input entries old new front none c =
     begun_at said input entries old new front (under_opening said (Some (lines_in (slice_split is_newline input))) old new entries none c)
 
-pub ended_opening : {T : Type 0} (said : Said) (f : SessionFault) (input : List ℕ) (entries : List Entry) (old new : Option (List ℕ))
-    → (failed T f ≢ Err Read) × (failed T f ≢ Err Write) × (failed T f ≢ Err InputFull) → IsCutAtOpening old entries new → IsEndedBy f said input entries old new
-ended_opening said Read input entries old new other c = absurd (other.0 refl)
-ended_opening said Write input entries old new other c = absurd (other.1 refl)
-ended_opening said InputFull input entries old new other c = absurd (other.2 refl)
-ended_opening said Fabric input entries old new other c = inr (opening_broken entries old new c)
-ended_opening said JournalFull input entries old new other c = inr (opening_broken entries old new c)
-ended_opening said BadFrame input entries old new other c = inr (opening_broken entries old new c)
-ended_opening said Strange input entries old new other c = inr (opening_broken entries old new c)
-ended_opening said OutOfMemory input entries old new other c = inr (opening_broken entries old new c)
+pub ended_opening : {console : UserConsole} {T : Type 0} (said : Said) (f : SessionFault) (input : List ℕ) (entries : List Entry) (old new : Option (List ℕ))
+    → (failed T f ≢ Err Read) × (failed T f ≢ Err Write) × (failed T f ≢ Err InputFull) → IsCutAtOpening console old entries new → IsEndedBy console f said input entries old new
+ended_opening {console} said Read input entries old new other c = absurd (other.0 refl)
+ended_opening {console} said Write input entries old new other c = absurd (other.1 refl)
+ended_opening {console} said InputFull input entries old new other c = absurd (other.2 refl)
+ended_opening {console} said Fabric input entries old new other c = inr (opening_broken entries old new c)
+ended_opening {console} said JournalFull input entries old new other c = inr (opening_broken entries old new c)
+ended_opening {console} said BadFrame input entries old new other c = inr (opening_broken entries old new c)
+ended_opening {console} said Strange input entries old new other c = inr (opening_broken entries old new c)
+ended_opening {console} said OutOfMemory input entries old new other c = inr (opening_broken entries old new c)
 
 -- ---- the same of the bytes that a source had left
 
@@ -192,19 +193,19 @@ all_lines left = lines_left (record { pending = []; read = 0; ended = false }) l
 told : (input : List ℕ) (left : Option (List ℕ)) → left ≡ Some input → all_lines left ≡ Some (lines_in (slice_split is_newline input))
 told input left h = ap all_lines h
 
-pub whole_from : (said : Said) (ended : Bool) (input : List ℕ) (left : Option (List ℕ)) (entries : List Entry) (old new : Option (List ℕ)) → left ≡ Some input
-    → IsOver said ended (all_lines left) old entries new → IsWhole said input entries old new
-whole_from said ended input left entries old new h o = whole_at_end said ended input entries old new (subst (λ all. IsOver said ended all old entries new) (told input left h) o)
+pub whole_from : {console : UserConsole} (said : Said) (ended : Bool) (input : List ℕ) (left : Option (List ℕ)) (entries : List Entry) (old new : Option (List ℕ)) → left ≡ Some input
+    → IsOver console said ended (all_lines left) old entries new → IsWhole console said input entries old new
+whole_from {console} said ended input left entries old new h o = whole_at_end said ended input entries old new (subst (λ all. IsOver console said ended all old entries new) (told input left h) o)
 
-pub begun_over : (said : Said) (ended : Bool) (input : List ℕ) (left : Option (List ℕ)) (entries : List Entry) (old new : Option (List ℕ)) → Grows said → left ≡ Some input
-    → IsOver said ended (all_lines left) old entries new → IsBegun said input entries old new
-begun_over said ended input left entries old new front h o =
-    begun_at said input entries old new front (under_over said ended _ old new entries (subst (λ all. IsOver said ended all old entries new) (told input left h) o))
+pub begun_over : {console : UserConsole} (said : Said) (ended : Bool) (input : List ℕ) (left : Option (List ℕ)) (entries : List Entry) (old new : Option (List ℕ)) → Grows console said → left ≡ Some input
+    → IsOver console said ended (all_lines left) old entries new → IsBegun console said input entries old new
+begun_over {console} said ended input left entries old new front h o =
+    begun_at said input entries old new front (under_over said ended _ old new entries (subst (λ all. IsOver console said ended all old entries new) (told input left h) o))
 
-pub read_up_from : (said : Said) (ended : Bool) (input : List ℕ) (left rest : Option (List ℕ)) (reading : Reading) (entries : List Entry) (old new : Option (List ℕ))
-    → left ≡ Some input → IsOver said ended (all_lines left) old entries new → HasRead left reading rest → reading.ended ≡ ended → IsReadUp input rest
-read_up_from said ended input left rest reading entries old new h o read same =
-    read_up_at said ended input reading rest entries old new (subst (λ all. IsOver said ended all old entries new) (told input left h) o)
+pub read_up_from : {console : UserConsole} (said : Said) (ended : Bool) (input : List ℕ) (left rest : Option (List ℕ)) (reading : Reading) (entries : List Entry) (old new : Option (List ℕ))
+    → left ≡ Some input → IsOver console said ended (all_lines left) old entries new → HasRead left reading rest → reading.ended ≡ ended → IsReadUp input rest
+read_up_from {console} said ended input left rest reading entries old new h o read same =
+    read_up_at said ended input reading rest entries old new (subst (λ all. IsOver console said ended all old entries new) (told input left h) o)
     (subst (λ all. HasRead all reading rest) h read) same
 
 pub read_on_from : (n : ℕ) (input : List ℕ) (left rest : Option (List ℕ)) (reading : Reading) → left ≡ Some input → IsStopped (all_lines left) reading rest
@@ -222,15 +223,15 @@ read_from input left rest reading before after h read count =
 pub read_from_none : (input : List ℕ) (left : Option (List ℕ)) (taken : ℕ) → left ≡ Some input → IsReadFrom input left taken taken
 read_from_none input left taken h = record { front = []; rest = input; input_is = refl; left_is = h; count = omega arith }
 
-pub ended_from : (said : Said) (f : SessionFault) (input : List ℕ) (left : Option (List ℕ)) (entries : List Entry) (old new : Option (List ℕ)) → Grows said
-    → left ≡ Some input → IsCutBy f said (all_lines left) old entries new → IsEndedBy f said input entries old new
-ended_from said f input left entries old new front h c =
-    ended_at said f input entries old new front (subst (λ all. IsCutBy f said all old entries new) (told input left h) c)
+pub ended_from : (console : UserConsole) (said : Said) (f : SessionFault) (input : List ℕ) (left : Option (List ℕ)) (entries : List Entry) (old new : Option (List ℕ)) → Grows console said
+    → left ≡ Some input → IsCutBy console f said (all_lines left) old entries new → IsEndedBy console f said input entries old new
+ended_from console said f input left entries old new front h c =
+    ended_at console said f input entries old new front (subst (λ all. IsCutBy console f said all old entries new) (told input left h) c)
 
-pub begun_from : (said : Said) (f : SessionFault) (input : List ℕ) (left : Option (List ℕ)) (entries : List Entry) (old new : Option (List ℕ)) → Grows said
-    → left ≡ Some input → IsCutBy f said (all_lines left) old entries new → IsBegun said input entries old new
-begun_from said f input left entries old new front h c =
-    begun_by said f input entries old new front (subst (λ all. IsCutBy f said all old entries new) (told input left h) c)
+pub begun_from : {console : UserConsole} (said : Said) (f : SessionFault) (input : List ℕ) (left : Option (List ℕ)) (entries : List Entry) (old new : Option (List ℕ)) → Grows console said
+    → left ≡ Some input → IsCutBy console f said (all_lines left) old entries new → IsBegun console said input entries old new
+begun_from {console} said f input left entries old new front h c =
+    begun_by said f input entries old new front (subst (λ all. IsCutBy console f said all old entries new) (told input left h) c)
 
 -- before anything is read
 pub read_none : (left : Option (List ℕ)) (reading : Reading) → reading ≡ record { pending = []; read = 0; ended = false } → HasRead left reading left
@@ -286,23 +287,23 @@ full_out count input before rest reading is h f =
     still false below read = refl
     still true below read = absurd (let less : reading.read < 67108864 = below refl in omega (arith, read))
 
-short_at : (count : ℕ) (said : Said) (input : List ℕ) (before rest : Option (List ℕ)) (reading : Reading) (entries : List Entry) (old new : Option (List ℕ))
-    → IsCutAt count said 1 (Some (lines_in (slice_split is_newline input))) old entries new → before ≡ Some (behind count input) → HasRead (Some input) reading rest
-    → (IsOut reading before rest → ⊥) → IsShort said input rest entries old new
+short_at : {console : UserConsole} (count : ℕ) (said : Said) (input : List ℕ) (before rest : Option (List ℕ)) (reading : Reading) (entries : List Entry) (old new : Option (List ℕ))
+    → IsCutAt console count said 1 (Some (lines_in (slice_split is_newline input))) old entries new → before ≡ Some (behind count input) → HasRead (Some input) reading rest
+    → (IsOut reading before rest → ⊥) → IsShort console said input rest entries old new
 unfolding broken_at
-short_at count said input before rest reading entries old new c is h never = inl (
+short_at {console} count said input before rest reading entries old new c is h never = inl (
   broken_at said 1 input entries old new c.0,
   λ f. never (full_out count input before rest reading is h (subst (λ k. IsFullBehind k input rest) c.1 f)),
 )
 
-pub short_from : (count : ℕ) (said : Said) (input : List ℕ) (left before rest : Option (List ℕ)) (reading : Reading) (entries : List Entry) (old new : Option (List ℕ)) → left ≡ Some input
-    → IsCutAt count said 1 (all_lines left) old entries new → before ≡ option_map (behind count) left → HasRead left reading rest
-    → (IsOut reading before rest → ⊥) → IsShort said input rest entries old new
-short_from count said input left before rest reading entries old new h c is read never =
+pub short_from : {console : UserConsole} (count : ℕ) (said : Said) (input : List ℕ) (left before rest : Option (List ℕ)) (reading : Reading) (entries : List Entry) (old new : Option (List ℕ)) → left ≡ Some input
+    → IsCutAt console count said 1 (all_lines left) old entries new → before ≡ option_map (behind count) left → HasRead left reading rest
+    → (IsOut reading before rest → ⊥) → IsShort console said input rest entries old new
+short_from {console} count said input left before rest reading entries old new h c is read never =
     short_at count said input before rest reading entries old new
-    (subst (λ all. IsCutAt count said 1 all old entries new) (told input left h) c) (is ∙ ap (option_map (behind count)) h)
+    (subst (λ all. IsCutAt console count said 1 all old entries new) (told input left h) c) (is ∙ ap (option_map (behind count)) h)
     (subst (λ all. HasRead all reading rest) h read) never
 
-pub short_opening : (said : Said) (input : List ℕ) (rest : Option (List ℕ)) (entries : List Entry) (old new : Option (List ℕ)) → rest ≡ Some input → IsCutAtOpening old entries new
-    → IsShort said input rest entries old new
-short_opening said input rest entries old new unread c = inr (opening_broken entries old new c, unread)
+pub short_opening : {console : UserConsole} (said : Said) (input : List ℕ) (rest : Option (List ℕ)) (entries : List Entry) (old new : Option (List ℕ)) → rest ≡ Some input → IsCutAtOpening console old entries new
+    → IsShort console said input rest entries old new
+short_opening {console} said input rest entries old new unread c = inr (opening_broken entries old new c, unread)

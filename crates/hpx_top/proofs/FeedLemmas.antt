@@ -7,7 +7,6 @@ use Rattle.hpx_journal.specs.declared.entry.Name.{Name}
 use Rattle.hpx_journal.specs.declared.entry.Entry.{Entry}
 use Rattle.hpx_journal.specs.declared.entry.Event.TheVariants.{Line}
 use Rattle.hpx_journal.specs.Entries.{Rules}
-use Rattle.hpx_journal.specs.Natives.{NothingMoves}
 use Rattle.hpx_journal.specs.Pool.{NoneFails, prints_of}
 use Rattle.hpx_journal.specs.Whole.{replayed}
 use Rattle.hpx_journal.specs.Weights.{HasRoom}
@@ -28,8 +27,9 @@ use Rattle.hpx_world.specs.Turns.{Feeds as FeedsAt, next_name, DidFeed}
 use Rattle.app_console.specs.Console.{prompt}
 use Rattle.app_console.specs.Lines.{opening}
 use Rattle.hpx_top.specs.Acts.{act_of}
-use Rattle.hpx_top.proofs.ActLemmas.{all_still}
-use Rattle.hpx_top.specs.Texts.{Said, commands}
+use Rattle.hpx_top.specs.declared.consoles.UserConsole.{UserConsole}
+use Rattle.hpx_top.specs.declared.consoles.UserConsole.TheVariants.{Accumulator}
+use Rattle.hpx_top.specs.Texts.{Said, commands, mark_of}
 use Rattle.hpx_top.specs.declared.session.SessionFault.{SessionFault}
 use Rattle.hpx_top.specs.declared.session.SessionFault.TheVariants.{Read, Write, Fabric, JournalFull, OutOfMemory, BadFrame, Strange, InputFull}
 use Rattle.hpx_top.specs.Reader.{Reading, TakesLine, lines_left}
@@ -98,11 +98,6 @@ none_out text turned.Idle nodes nodes' old new d passive = absurd d
 none_out text (turned.Finished f) nodes nodes' old new d passive = absurd d
 none_out text turned.Moved nodes nodes' old new d passive = absurd d
 none_out text turned.Empty nodes nodes' old new d passive = absurd d
-
--- ---- no MOVE is sent
-
-pub still : (n : ℕ) (p : Profile) → NothingMoves (rules_of act_of n p)
-still n p = record { codes = λ kind here s a low state act. all_still n kind here s a low state act }
 
 -- ---- no action fails
 
@@ -175,53 +170,53 @@ abbrev failed : (T : Type 0) → SessionFault → Result T SessionFault
 failed T f = Err f
 
 -- feeding it failed
-pub ended_feed : {T : Type 0} (f : SessionFault) (r : Rules) (line : List ℕ) (old new : List Entry) (before now : Option (List ℕ))
-    → (failed T f ≢ Err Read) × (failed T f ≢ Err Write) × (failed T f ≢ Err InputFull) → FeedsAtMost (97 ∷ line) old new → now ≡ before
-    → IsLineEndedBy f r line old new before now
-ended_feed Read r line old new before now other fed same = absurd (other.0 refl)
-ended_feed Write r line old new before now other fed same = absurd (other.1 refl)
-ended_feed InputFull r line old new before now other fed same = absurd (other.2 refl)
-ended_feed Fabric r line old new before now other fed same = (fed, same)
-ended_feed JournalFull r line old new before now other fed same = (fed, same)
-ended_feed OutOfMemory r line old new before now other fed same = (fed, same)
-ended_feed BadFrame r line old new before now other fed same = (fed, same)
-ended_feed Strange r line old new before now other fed same = (fed, same)
+pub ended_feed : (console : UserConsole) {T : Type 0} (f : SessionFault) (r : Rules) (line : List ℕ) (old new : List Entry) (before now : Option (List ℕ))
+    → (failed T f ≢ Err Read) × (failed T f ≢ Err Write) × (failed T f ≢ Err InputFull) → FeedsAtMost (mark_of console ∷ line) old new → now ≡ before
+    → IsLineEndedBy console f r line old new before now
+ended_feed console Read r line old new before now other fed same = absurd (other.0 refl)
+ended_feed console Write r line old new before now other fed same = absurd (other.1 refl)
+ended_feed console InputFull r line old new before now other fed same = absurd (other.2 refl)
+ended_feed console Fabric r line old new before now other fed same = (fed, same)
+ended_feed console JournalFull r line old new before now other fed same = (fed, same)
+ended_feed console OutOfMemory r line old new before now other fed same = (fed, same)
+ended_feed console BadFrame r line old new before now other fed same = (fed, same)
+ended_feed console Strange r line old new before now other fed same = (fed, same)
 
 -- writing what it prints failed
-pub ended_show : {T : Type 0} (result : Result T SessionFault) (Q : Type 0) (r : Rules) (line : List ℕ) (old new : List Entry) (before now : Option (List ℕ))
-    → IfErr result (λ f. (f ≡ Write) × Q) → OnErr result (WritesFront (concat (prints_of (drop (length old) new))) before now) → Feeds r (97 ∷ line) old new
-    → IfErr result (λ f. IsLineEndedBy f r line old new before now)
-ended_show (Ok x) Q r line old new before now cause w fed = tt
-ended_show (Err f) Q r line old new before now cause w fed = subst (λ f. IsLineEndedBy f r line old new before now) (sym cause.0) (fed, w)
+pub ended_show : (console : UserConsole) {T : Type 0} (result : Result T SessionFault) (Q : Type 0) (r : Rules) (line : List ℕ) (old new : List Entry) (before now : Option (List ℕ))
+    → IfErr result (λ f. (f ≡ Write) × Q) → OnErr result (WritesFront (concat (prints_of (drop (length old) new))) before now) → Feeds r (mark_of console ∷ line) old new
+    → IfErr result (λ f. IsLineEndedBy console f r line old new before now)
+ended_show console (Ok x) Q r line old new before now cause w fed = tt
+ended_show console (Err f) Q r line old new before now cause w fed = subst (λ f. IsLineEndedBy console f r line old new before now) (sym cause.0) (fed, w)
 
 -- ---- how a session ends
 
-pub cut_write : (f : SessionFault) (said : Said) (all : Option (List (List ℕ))) (before now : Option (List ℕ)) (entries : List Entry) → f ≡ Write
-    → IsUnderWay said all before entries now → IsCutBy f said all before entries now
-cut_write f said all before now entries is u = subst (λ f. IsCutBy f said all before entries now) (sym is) u
+pub cut_write : {console : UserConsole} (f : SessionFault) (said : Said) (all : Option (List (List ℕ))) (before now : Option (List ℕ)) (entries : List Entry) → f ≡ Write
+    → IsUnderWay console said all before entries now → IsCutBy console f said all before entries now
+cut_write {console} f said all before now entries is u = subst (λ f. IsCutBy console f said all before entries now) (sym is) u
 
 -- the accumulator was not made
-pub cut_opening : (before now : Option (List ℕ)) (old new : List Entry) → old ≡ [] → FeedsAtMost opening old new → now ≡ followed before commands
-    → IsCutAtOpening before new now
-cut_opening before now old new empty (inl same) held = record { journal = inl (ap lines_fed (same ∙ empty)); held = held }
-cut_opening before now old new empty (inr f) held =
-    record { journal = inr (fed_once opening old new f ∙ ap (λ es. lines_fed es ++ opening ∷ []) empty); held = held }
+pub cut_opening : {console : UserConsole} (before now : Option (List ℕ)) (old new : List Entry) → console ≡ Accumulator → old ≡ [] → FeedsAtMost opening old new → now ≡ followed before (commands console)
+    → IsCutAtOpening console before new now
+cut_opening {console} before now old new only empty (inl same) held = record { only = only; journal = inl (ap lines_fed (same ∙ empty)); held = held }
+cut_opening {console} before now old new only empty (inr f) held =
+    record { only = only; journal = inr (fed_once opening old new f ∙ ap (λ es. lines_fed es ++ opening ∷ []) empty); held = held }
 
-pub cut_text : (f : SessionFault) (n : ℕ) (p : Profile) (said : Said) (all : Option (List (List ℕ))) (before now mid later : Option (List ℕ)) (reading next : Reading)
-    (left rest : Option (List ℕ)) (old new : List Entry) (line : List ℕ) → 1 ≤ n → n ≤ 64 → IsServing (rules_of act_of n p) all before reading left old now
+pub cut_text : {console : UserConsole} (f : SessionFault) (n : ℕ) (p : Profile) (said : Said) (all : Option (List (List ℕ))) (before now mid later : Option (List ℕ)) (reading next : Reading)
+    (left rest : Option (List ℕ)) (old new : List Entry) (line : List ℕ) → 1 ≤ n → n ≤ 64 → IsServing console (rules_of act_of n p) all before reading left old now
     → mid ≡ followed now prompt → TakesLine line (lines_left reading left) (lines_left next rest)
-    → IsLineEndedBy f (rules_of act_of n p) line old new mid later → Tells n new said → IsCutBy f said all before new later
-cut_text Write n p said all before now mid later reading next left rest old new line some few s prompted takes e tells =
+    → IsLineEndedBy console f (rules_of act_of n p) line old new mid later → Tells console n new said → IsCutBy console f said all before new later
+cut_text {console} Write n p said all before now mid later reading next left rest old new line some few s prompted takes e tells =
     under_line n p said all before now mid later reading next left rest old new line some few s prompted takes e.0 e.1 tells
-cut_text Read n p said all before now mid later reading next left rest old new line some few s prompted takes e tells = absurd e
-cut_text InputFull n p said all before now mid later reading next left rest old new line some few s prompted takes e tells = absurd e
-cut_text Fabric n p said all before now mid later reading next left rest old new line some few s prompted takes e tells =
+cut_text {console} Read n p said all before now mid later reading next left rest old new line some few s prompted takes e tells = absurd e
+cut_text {console} InputFull n p said all before now mid later reading next left rest old new line some few s prompted takes e tells = absurd e
+cut_text {console} Fabric n p said all before now mid later reading next left rest old new line some few s prompted takes e tells =
     cut_in n p said all before now later reading next left rest old new line some few s (e.1 ∙ prompted) takes e.0 tells
-cut_text JournalFull n p said all before now mid later reading next left rest old new line some few s prompted takes e tells =
+cut_text {console} JournalFull n p said all before now mid later reading next left rest old new line some few s prompted takes e tells =
     cut_in n p said all before now later reading next left rest old new line some few s (e.1 ∙ prompted) takes e.0 tells
-cut_text BadFrame n p said all before now mid later reading next left rest old new line some few s prompted takes e tells =
+cut_text {console} BadFrame n p said all before now mid later reading next left rest old new line some few s prompted takes e tells =
     cut_in n p said all before now later reading next left rest old new line some few s (e.1 ∙ prompted) takes e.0 tells
-cut_text Strange n p said all before now mid later reading next left rest old new line some few s prompted takes e tells =
+cut_text {console} Strange n p said all before now mid later reading next left rest old new line some few s prompted takes e tells =
     cut_in n p said all before now later reading next left rest old new line some few s (e.1 ∙ prompted) takes e.0 tells
-cut_text OutOfMemory n p said all before now mid later reading next left rest old new line some few s prompted takes e tells =
+cut_text {console} OutOfMemory n p said all before now mid later reading next left rest old new line some few s prompted takes e tells =
     cut_line n p said all before now later reading next left rest old new line some few s (e.1 ∙ prompted) takes e.0 tells

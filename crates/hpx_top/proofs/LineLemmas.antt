@@ -10,13 +10,15 @@ use Rattle.hpx_journal.specs.Entries.{Rules}
 use Rattle.hpx_journal.specs.Pool.{prints_by, prints_of}
 use Rattle.hpx_journal.specs.Sessions.{FeedsNothing, IsSession, BeginsWith, entries_of, shown}
 use Rattle.hpx_ports.specs.Told.{preceded, followed}
-use Rattle.app_console.specs.declared.table.Console.TheVariants.{Accumulator as AccumulatorConsole}
+use Rattle.app_console.specs.declared.table.Console.{Console}
 use Rattle.app_console.specs.Console.{words_of, prompt}
-use Rattle.app_console.specs.Lines.{IsFront, is_long, is_quit, are_quit, before_quit, opening, first_of, others_of}
-use Rattle.app_console.specs.Plain.{Plain, opened}
+use Rattle.app_console.specs.Lines.{IsFront, is_long, is_quit, are_quit, before_quit, first_of, others_of}
+use Rattle.app_console.specs.Plain.{Plain}
 use Rattle.app_console.specs.Text.{too_long, after_line, text_of_line, marked, written, lines_text as lines_text_in}
-use Rattle.hpx_top.specs.Texts.{Said, commands, fed, lines_text, text_by}
-use Rattle.hpx_top.specs.Session.{is_line, lines_by, lines_fed, prints_first, texts_fed, shown_in, Tells}
+use Rattle.hpx_top.specs.declared.consoles.UserConsole.{UserConsole}
+use Rattle.hpx_top.specs.declared.consoles.UserConsole.TheVariants.{Accumulator, Space}
+use Rattle.hpx_top.specs.Texts.{Said, commands, fed, lines_text, mark_of, opens, start_of, table_of, text_by}
+use Rattle.hpx_top.specs.Session.{is_line, lines_by, lines_fed, prints_first, texts_fed, texts_typed, shown_in, Tells}
 
 -- ---- what is told
 
@@ -44,23 +46,23 @@ told_rest all lines (Some rest) h = (rest, refl, (let some : Some all ≡ Some (
 -- ---- the text
 
 -- one line, and what is left after it
-abbrev line_text : ℕ → Plain → List ℕ → List ℕ
-line_text n v line = text_of_line AccumulatorConsole n v line
+abbrev line_text : Console → ℕ → Plain → List ℕ → List ℕ
+line_text c n v line = text_of_line c n v line
 
-abbrev after : ℕ → Plain → List ℕ → Plain
-after n v line = after_line AccumulatorConsole n v line
+abbrev after : Console → ℕ → Plain → List ℕ → Plain
+after c n v line = after_line c n v line
 
 -- what is left after lines
-abbrev after_all : ℕ → Plain → List (List ℕ) → Plain
-after_all n v [] = v
-after_all n v (x ∷ xs) = after_all n (after n v x) xs
+abbrev after_all : Console → ℕ → Plain → List (List ℕ) → Plain
+after_all c n v [] = v
+after_all c n v (x ∷ xs) = after_all c n (after c n v x) xs
 
-said_append : (n : ℕ) (v : Plain) (xs ys : List (List ℕ))
-    → lines_text_in AccumulatorConsole n v (xs ++ ys) ≡ lines_text_in AccumulatorConsole n v xs ++ lines_text_in AccumulatorConsole n (after_all n v xs) ys
-said_append n v [] ys = refl
-said_append n v (x ∷ xs) ys =
-    ap (λ t. prompt ++ (line_text n v x ++ t)) (said_append n (after n v x) xs ys)
-    ∙ regroup prompt (line_text n v x) (lines_text_in AccumulatorConsole n (after n v x) xs) (lines_text_in AccumulatorConsole n (after_all n (after n v x) xs) ys)
+said_append : (c : Console) (n : ℕ) (v : Plain) (xs ys : List (List ℕ))
+    → lines_text_in c n v (xs ++ ys) ≡ lines_text_in c n v xs ++ lines_text_in c n (after_all c n v xs) ys
+said_append c n v [] ys = refl
+said_append c n v (x ∷ xs) ys =
+    ap (λ t. prompt ++ (line_text c n v x ++ t)) (said_append c n (after c n v x) xs ys)
+    ∙ regroup prompt (line_text c n v x) (lines_text_in c n (after c n v x) xs) (lines_text_in c n (after_all c n (after c n v x) xs) ys)
   where
     regroup : (p a b c : List ℕ) → p ++ (a ++ (b ++ c)) ≡ (p ++ (a ++ b)) ++ c
     regroup p a b c = simp append_assoc
@@ -75,38 +77,44 @@ front_within : (c l p t m : List ℕ) → (c ++ (l ++ p)) ++ (t ++ (m ++ p)) ≡
 front_within c l p t m = simp append_assoc
 
 -- the text of the first lines begins that of all
-abbrev pub Grows : Said → Type 0
-Grows said = (xs ys : List (List ℕ)) → IsFront (text_by said xs) (text_by said (xs ++ ys))
+abbrev pub Grows : UserConsole → Said → Type 0
+Grows console said = (xs ys : List (List ℕ)) → IsFront (text_by console said xs) (text_by console said (xs ++ ys))
 
-text_front : (n : ℕ) → Grows (lines_text n)
-text_front n xs [] =
-    subst (λ zs. IsFront (text_by (lines_text n) xs) (text_by (lines_text n) zs)) (sym (append-nil xs)) (front_all (text_by (lines_text n) xs))
-text_front n xs (y ∷ ys) =
-    let v = after_all n (opened n) xs in
+text_front : (console : UserConsole) (n : ℕ) → Grows console (lines_text console n)
+text_front console n xs [] =
+    subst (λ zs. IsFront (text_by console (lines_text console n) xs) (text_by console (lines_text console n) zs)) (sym (append-nil xs))
+    (front_all (text_by console (lines_text console n) xs))
+text_front console n xs (y ∷ ys) =
+    let c = table_of console in
+    let v = after_all c n (start_of console n) xs in
     record {
-      later = line_text n v y ++ (lines_text_in AccumulatorConsole n (after n v y) ys ++ prompt);
-      is = front_within commands (lines_text n xs) prompt (line_text n v y) (lines_text_in AccumulatorConsole n (after n v y) ys)
-          ∙ ap (λ t. commands ++ (t ++ prompt)) (sym (said_append n (opened n) xs (y ∷ ys)));
+      later = line_text c n v y ++ (lines_text_in c n (after c n v y) ys ++ prompt);
+      is = front_within (commands console) (lines_text console n xs) prompt (line_text c n v y) (lines_text_in c n (after c n v y) ys)
+          ∙ ap (λ t. commands console ++ (t ++ prompt)) (sym (said_append c n (start_of console n) xs (y ∷ ys)));
     }
 
 -- ---- lines that are fed
 
-marked_cons : (b : Bool) (x : List ℕ) (a c d : List (List ℕ)) → a ≡ c ++ d → (if b then a else (97 ∷ x) ∷ a) ≡ (if b then c else (97 ∷ x) ∷ c) ++ d
-marked_cons true x a c d h = h
-marked_cons false x a c d h = ap (λ t. (97 ∷ x) ∷ t) h
+marked_cons : (mark : ℕ) (b : Bool) (x : List ℕ) (a c d : List (List ℕ)) → a ≡ c ++ d → (if b then a else (mark ∷ x) ∷ a) ≡ (if b then c else (mark ∷ x) ∷ c) ++ d
+marked_cons mark true x a c d h = h
+marked_cons mark false x a c d h = ap (λ t. (mark ∷ x) ∷ t) h
 
-marked_append : (xs ys : List (List ℕ)) → marked 97 (xs ++ ys) ≡ marked 97 xs ++ marked 97 ys
-marked_append [] ys = refl
-marked_append (x ∷ xs) ys = marked_cons (is_long x) x (marked 97 (xs ++ ys)) (marked 97 xs) (marked 97 ys) (marked_append xs ys)
+marked_append : (mark : ℕ) (xs ys : List (List ℕ)) → marked mark (xs ++ ys) ≡ marked mark xs ++ marked mark ys
+marked_append mark [] ys = refl
+marked_append mark (x ∷ xs) ys = marked_cons mark (is_long x) x (marked mark (xs ++ ys)) (marked mark xs) (marked mark ys) (marked_append mark xs ys)
 
-pub fed_short : (xs : List (List ℕ)) (line : List ℕ) → is_long line ≡ false → fed (xs ++ line ∷ []) ≡ fed xs ++ (97 ∷ line) ∷ []
-fed_short xs line h =
-    ap (λ t. opening ∷ t) (marked_append xs (line ∷ []) ∙ ap (λ b. marked 97 xs ++ (if b then [] else (97 ∷ line) ∷ [])) h)
+pub fed_short : (console : UserConsole) (xs : List (List ℕ)) (line : List ℕ) → is_long line ≡ false
+    → fed console (xs ++ line ∷ []) ≡ fed console xs ++ (mark_of console ∷ line) ∷ []
+fed_short console xs line h =
+    let mark = mark_of console in
+    ap (λ t. opens console ++ t) (marked_append mark xs (line ∷ []) ∙ ap (λ b. marked mark xs ++ (if b then [] else (mark ∷ line) ∷ [])) h)
+    ∙ sym (append_assoc (opens console) (marked mark xs) ((mark ∷ line) ∷ []))
 
-pub fed_long : (xs : List (List ℕ)) (line : List ℕ) → is_long line ≡ true → fed (xs ++ line ∷ []) ≡ fed xs
-fed_long xs line h =
-    ap (λ t. opening ∷ t)
-    (marked_append xs (line ∷ []) ∙ (ap (λ b. marked 97 xs ++ (if b then [] else (97 ∷ line) ∷ [])) h ∙ append-nil (marked 97 xs)))
+pub fed_long : (console : UserConsole) (xs : List (List ℕ)) (line : List ℕ) → is_long line ≡ true → fed console (xs ++ line ∷ []) ≡ fed console xs
+fed_long console xs line h =
+    let mark = mark_of console in
+    ap (λ t. opens console ++ t)
+    (marked_append mark xs (line ∷ []) ∙ (ap (λ b. marked mark xs ++ (if b then [] else (mark ∷ line) ∷ [])) h ∙ append-nil (marked mark xs)))
 
 -- ---- lines that end reading
 
@@ -186,41 +194,45 @@ session_count r before [] (es ∷ blocks) h = absurd h
 session_count r before (line ∷ lines) [] h = absurd h
 session_count r before (line ∷ lines) (es ∷ blocks) h = ap (λ n. suc n) (session_count r (before ++ es) lines blocks h.1)
 
--- behind the first text, which is that of the opening line
-pub others_count : (texts : List (List (List ℕ))) (n : ℕ) → length texts ≡ suc n → length (others_of texts) ≡ n
-others_count [] n h = absurd (omega arith)
-others_count (t ∷ texts) n h = omega arith
+-- behind the texts of the console's own lines
+pub typed_count : (console : UserConsole) (texts : List (List (List ℕ))) (lines : List (List ℕ)) → length texts ≡ length (fed console lines)
+    → length (texts_typed console texts) ≡ length (marked (mark_of console) lines)
+typed_count Accumulator [] lines h = absurd (let no : 0 ≡ suc (length (marked 97 lines)) = h in omega (arith, no))
+typed_count Accumulator (t ∷ texts) lines h = let same : suc (length texts) ≡ suc (length (marked 97 lines)) = h in omega (arith, same)
+typed_count Space texts lines h = h
 
-pub others_more : (texts : List (List (List ℕ))) (more : List (List ℕ)) (n : ℕ) → length texts ≡ suc n → others_of (texts ++ more ∷ []) ≡ others_of texts ++ more ∷ []
-others_more [] more n h = absurd (omega arith)
-others_more (t ∷ texts) more n h = refl
+pub typed_more : (console : UserConsole) (texts : List (List (List ℕ))) (more : List (List ℕ)) (lines : List (List ℕ)) → length texts ≡ length (fed console lines)
+    → texts_typed console (texts ++ more ∷ []) ≡ texts_typed console texts ++ more ∷ []
+typed_more Accumulator [] more lines h = absurd (let no : 0 ≡ suc (length (marked 97 lines)) = h in omega (arith, no))
+typed_more Accumulator (t ∷ texts) more lines h = refl
+typed_more Space texts more lines h = refl
 
 -- ---- what is written for one line more
 
 regroup : (p a b r : List ℕ) → p ++ (a ++ (b ++ r)) ≡ (p ++ (a ++ b)) ++ r
 regroup p a b r = simp append_assoc
 
-written_cons : (b : Bool) (xs : List (List ℕ)) (first line r : List ℕ) (texts : List (List (List ℕ))) (more : List (List ℕ))
-    → length texts ≡ length (if b then marked 97 xs else (97 ∷ first) ∷ marked 97 xs)
-    → ((texts : List (List (List ℕ))) → length texts ≡ length (marked 97 xs) → written (xs ++ line ∷ []) (texts ++ more ∷ []) ≡ written xs texts ++ r)
+written_cons : (mark : ℕ) (b : Bool) (xs : List (List ℕ)) (first line r : List ℕ) (texts : List (List (List ℕ))) (more : List (List ℕ))
+    → length texts ≡ length (if b then marked mark xs else (mark ∷ first) ∷ marked mark xs)
+    → ((texts : List (List (List ℕ))) → length texts ≡ length (marked mark xs) → written (xs ++ line ∷ []) (texts ++ more ∷ []) ≡ written xs texts ++ r)
     → (if b then prompt ++ (too_long ++ written (xs ++ line ∷ []) (texts ++ more ∷ []))
     else prompt ++ (first_of (texts ++ more ∷ []) ++ written (xs ++ line ∷ []) (others_of (texts ++ more ∷ []))))
     ≡ (if b then prompt ++ (too_long ++ written xs texts) else prompt ++ (first_of texts ++ written xs (others_of texts))) ++ r
-written_cons true xs first line r texts more h next =
+written_cons mark true xs first line r texts more h next =
     ap (λ t. prompt ++ (too_long ++ t)) (next texts h) ∙ regroup prompt too_long (written xs texts) r
-written_cons false xs first line r [] more h next = absurd (let no : 0 ≡ length ((97 ∷ first) ∷ marked 97 xs) = h in omega arith)
-written_cons false xs first line r (t ∷ texts) more h next =
-    let count : length texts ≡ length (marked 97 xs) = omega (arith, h) in
+written_cons mark false xs first line r [] more h next = absurd (let no : 0 ≡ length ((mark ∷ first) ∷ marked mark xs) = h in omega arith)
+written_cons mark false xs first line r (t ∷ texts) more h next =
+    let count : length texts ≡ length (marked mark xs) = omega (arith, h) in
     ap (λ u. prompt ++ (concat t ++ u)) (next texts count) ∙ regroup prompt (concat t) (written xs texts) r
 
-pub written_more : (xs : List (List ℕ)) (texts : List (List (List ℕ))) (line : List ℕ) (more : List (List ℕ)) → is_long line ≡ false
-    → length texts ≡ length (marked 97 xs) → written (xs ++ line ∷ []) (texts ++ more ∷ []) ≡ written xs texts ++ (prompt ++ (concat more ++ []))
-written_more [] [] line more short h =
+pub written_more : (mark : ℕ) (xs : List (List ℕ)) (texts : List (List (List ℕ))) (line : List ℕ) (more : List (List ℕ)) → is_long line ≡ false
+    → length texts ≡ length (marked mark xs) → written (xs ++ line ∷ []) (texts ++ more ∷ []) ≡ written xs texts ++ (prompt ++ (concat more ++ []))
+written_more mark [] [] line more short h =
     ap (λ b. if b then prompt ++ (too_long ++ []) else prompt ++ (concat more ++ [])) short
-written_more [] (t ∷ texts) line more short h = absurd (let no : length (t ∷ texts) ≡ 0 = h in omega arith)
-written_more (x ∷ xs) texts line more short h =
-    written_cons (is_long x) xs x line (prompt ++ (concat more ++ [])) texts more h
-    (λ texts count. written_more xs texts line more short count)
+written_more mark [] (t ∷ texts) line more short h = absurd (let no : length (t ∷ texts) ≡ 0 = h in omega arith)
+written_more mark (x ∷ xs) texts line more short h =
+    written_cons mark (is_long x) xs x line (prompt ++ (concat more ++ [])) texts more h
+    (λ texts count. written_more mark xs texts line more short count)
 
 -- ---- what is written line by line
 
@@ -244,26 +256,26 @@ written_append (x ∷ xs) ys texts =
     append_by (is_long x) xs ys texts (texts_left xs texts) (texts_left xs (others_of texts)) (written_append xs ys texts) (written_append xs ys (others_of texts))
 
 -- texts behind those of the lines are not written
-unused_cons : (b : Bool) (xs : List (List ℕ)) (x : List ℕ) (texts more : List (List (List ℕ)))
-    → length texts ≡ length (if b then marked 97 xs else (97 ∷ x) ∷ marked 97 xs)
-    → ((ts : List (List (List ℕ))) → length ts ≡ length (marked 97 xs) → written xs (ts ++ more) ≡ written xs ts)
+unused_cons : (mark : ℕ) (b : Bool) (xs : List (List ℕ)) (x : List ℕ) (texts more : List (List (List ℕ)))
+    → length texts ≡ length (if b then marked mark xs else (mark ∷ x) ∷ marked mark xs)
+    → ((ts : List (List (List ℕ))) → length ts ≡ length (marked mark xs) → written xs (ts ++ more) ≡ written xs ts)
     → (if b then prompt ++ (too_long ++ written xs (texts ++ more)) else prompt ++ (first_of (texts ++ more) ++ written xs (others_of (texts ++ more))))
     ≡ (if b then prompt ++ (too_long ++ written xs texts) else prompt ++ (first_of texts ++ written xs (others_of texts)))
-unused_cons true xs x texts more h next = ap (λ t. prompt ++ (too_long ++ t)) (next texts h)
-unused_cons false xs x [] more h next = absurd (let no : 0 ≡ length ((97 ∷ x) ∷ marked 97 xs) = h in omega arith)
-unused_cons false xs x (t ∷ texts) more h next =
-    let count : length texts ≡ length (marked 97 xs) = omega (arith, h) in
+unused_cons mark true xs x texts more h next = ap (λ t. prompt ++ (too_long ++ t)) (next texts h)
+unused_cons mark false xs x [] more h next = absurd (let no : 0 ≡ length ((mark ∷ x) ∷ marked mark xs) = h in omega arith)
+unused_cons mark false xs x (t ∷ texts) more h next =
+    let count : length texts ≡ length (marked mark xs) = omega (arith, h) in
     ap (λ u. prompt ++ (concat t ++ u)) (next texts count)
 
-pub written_unused : (xs : List (List ℕ)) (texts more : List (List (List ℕ))) → length texts ≡ length (marked 97 xs) → written xs (texts ++ more) ≡ written xs texts
-written_unused [] texts more h = refl
-written_unused (x ∷ xs) texts more h = unused_cons (is_long x) xs x texts more h (λ ts count. written_unused xs ts more count)
+pub written_unused : (mark : ℕ) (xs : List (List ℕ)) (texts more : List (List (List ℕ))) → length texts ≡ length (marked mark xs) → written xs (texts ++ more) ≡ written xs texts
+written_unused mark [] texts more h = refl
+written_unused mark (x ∷ xs) texts more h = unused_cons mark (is_long x) xs x texts more h (λ ts count. written_unused mark xs ts more count)
 
 -- a line more that is too long
-pub long_more : (entries : List Entry) (xs : List (List ℕ)) (line : List ℕ) → is_long line ≡ true
-    → shown_in entries xs ++ (prompt ++ too_long) ≡ shown_in entries (xs ++ line ∷ [])
-long_more entries xs line long =
-    let texts = others_of (texts_fed entries) in
+pub long_more : (console : UserConsole) (entries : List Entry) (xs : List (List ℕ)) (line : List ℕ) → is_long line ≡ true
+    → shown_in console entries xs ++ (prompt ++ too_long) ≡ shown_in console entries (xs ++ line ∷ [])
+long_more console entries xs line long =
+    let texts = texts_typed console (texts_fed entries) in
     let left = texts_left xs texts in
     ap (λ t. written xs texts ++ (prompt ++ t)) (sym (append-nil too_long))
     ∙ (ap (λ b. written xs texts ++ (if b then prompt ++ (too_long ++ []) else prompt ++ (first_of left ++ []))) (sym long)
@@ -277,35 +289,35 @@ prompted false p x y = refl
 front_shown : (c w p t : List ℕ) → (c ++ (w ++ p)) ++ (t ++ p) ≡ c ++ ((w ++ (p ++ t)) ++ p)
 front_shown c w p t = simp append_assoc
 
-shown_front : (entries : List Entry) → Grows (shown_in entries)
-shown_front entries xs [] =
-    let said : Said = shown_in entries in
-    subst (λ zs. IsFront (text_by said xs) (text_by said zs)) (sym (append-nil xs)) (front_all (text_by said xs))
-shown_front entries xs (y ∷ ys) =
-    let texts = others_of (texts_fed entries) in
+shown_front : (console : UserConsole) (entries : List Entry) → Grows console (shown_in console entries)
+shown_front console entries xs [] =
+    let said : Said = shown_in console entries in
+    subst (λ zs. IsFront (text_by console said xs) (text_by console said zs)) (sym (append-nil xs)) (front_all (text_by console said xs))
+shown_front console entries xs (y ∷ ys) =
+    let texts = texts_typed console (texts_fed entries) in
     let left = texts_left xs texts in
     let next : List ℕ = if is_long y then too_long ++ written ys left else first_of left ++ written ys (others_of left) in
     record {
       later = next ++ prompt;
-      is = front_shown commands (written xs texts) prompt next
-          ∙ ap (λ t. commands ++ (t ++ prompt))
+      is = front_shown (commands console) (written xs texts) prompt next
+          ∙ ap (λ t. commands console ++ (t ++ prompt))
           (ap (λ t. written xs texts ++ t) (sym (prompted (is_long y) prompt (too_long ++ written ys left) (first_of left ++ written ys (others_of left))))
           ∙ sym (written_append xs (y ∷ ys) texts));
     }
 
 -- ---- what is said
 
-pub grows : (n : ℕ) (entries : List Entry) (said : Said) → Tells n entries said → Grows said
-grows n entries said (inl is) = subst Grows (sym is) (shown_front entries)
-grows n entries said (inr t) = subst Grows (sym t.1) (text_front n)
+pub grows : (console : UserConsole) (n : ℕ) (entries : List Entry) (said : Said) → Tells console n entries said → Grows console said
+grows console n entries said (inl is) = subst (Grows console) (sym is) (shown_front console entries)
+grows console n entries said (inr t) = subst (Grows console) (sym t.1) (text_front console n)
 
-pub said_none : (n : ℕ) (entries : List Entry) (said : Said) → Tells n entries said → said [] ≡ []
-said_none n entries said (inl is) = ap (λ (f : Said). f []) is
-said_none n entries said (inr t) = ap (λ (f : Said). f []) t.1
+pub said_none : (console : UserConsole) (n : ℕ) (entries : List Entry) (said : Said) → Tells console n entries said → said [] ≡ []
+said_none console n entries said (inl is) = ap (λ (f : Said). f []) is
+said_none console n entries said (inr t) = ap (λ (f : Said). f []) t.1
 
 -- at as many localities
-pub tells_as : (n m : ℕ) (entries : List Entry) (said : Said) → n ≡ m → Tells m entries said → Tells n entries said
-tells_as n m entries said same tells = subst (λ k. Tells k entries said) (sym same) tells
+pub tells_as : (console : UserConsole) (n m : ℕ) (entries : List Entry) (said : Said) → n ≡ m → Tells console m entries said → Tells console n entries said
+tells_as console n m entries said same tells = subst (λ k. Tells console k entries said) (sym same) tells
 
 -- ---- texts of lines in a journal
 

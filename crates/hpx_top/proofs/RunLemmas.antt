@@ -3,14 +3,13 @@ use Rattle.std.specs.Prelude.{Result, Ok, Err, OnOk, IfErr, IfSome, ⊤, ◌≢�
 use Rattle.std.proofs.Common.{ℕ, List, [], length, ◌≡◌, ◌≤◌, ◌+◌, ◌⊎◌, Option, Some, None, refl, sym, ap, subst, ◌∙◌, inl, inr, arith}
 use Rattle.hpx_journal.specs.Entries.{Frame}
 use Rattle.hpx_value.specs.declared.profile.Profile.{Profile}
-use Rattle.hpx_journal.specs.Natives.{NothingMoves}
 use Rattle.hpx_journal.specs.Pool.{NoneFails}
 use Rattle.hpx_journal.specs.Weights.{HasRoom}
 use Rattle.hpx_journal.specs.Whole.{IsCarried}
 use Rattle.hpx_ports.specs.declared.fabric.Wire.{Wire}
 use Rattle.hpx_steps.specs.Limits.{IsWithin}
 use Rattle.hpx_world.specs.Quiet.{IsQuiet}
-use Rattle.hpx_world.specs.Audit.{audit_lines, IsAudit, StandAtHome, StandWhereTold}
+use Rattle.hpx_world.specs.Audit.{audit_lines, IsAudit, StandWhereTold}
 use Rattle.hpx_world.specs.Away.{IsCarrying}
 use Rattle.hpx_world.specs.Promises.{KeepsPromises}
 use Rattle.hpx_ports.specs.Faults.{Rose}
@@ -20,10 +19,11 @@ use Rattle.hpx_top.specs.declared.session.SessionFault.TheVariants.{Read, Write,
 use Rattle.hpx_top.specs.Ends.{IsWhole, IsBegun, IsShort, IsEndedBy, IsReadFrom, IsReadUp, IsReadOn, IsInputFull}
 use Rattle.hpx_top.specs.Runs.{Ports, HasCause, HasEnded, HasServed, IsLawful, ports_of}
 use Rattle.hpx_top.specs.Session.{rules, IsRested, NoneRefused}
+use Rattle.hpx_top.specs.declared.consoles.UserConsole.{UserConsole}
 use Rattle.hpx_top.specs.Texts.{Said}
 use Rattle.hpx_top.specs.Statuses.{IsStatus, status_after}
 use Rattle.hpx_top.proofs.EndLemmas.{begun_nothing, read_from_none}
-use Rattle.hpx_top.proofs.FeedLemmas.{all_granted, all_done, none_fails, on_ok, still}
+use Rattle.hpx_top.proofs.FeedLemmas.{all_granted, all_done, none_fails, on_ok}
 
 -- ---- the answer that a status comes of
 
@@ -132,13 +132,13 @@ no_status r n never s = never (at r n s)
 
 -- ---- texts
 
-pub served_of : (said : Said) (r : Result ⊤ SessionFault) (w : Places) (input : List ℕ) (x z : Ports)
-    → IsReadFrom input z.left x.taken z.taken → OnOk r (IsWhole said input w.journal.entries x.text z.text) → OnOk r (IsReadUp input z.left)
-    → IsBegun said input w.journal.entries x.text z.text → IfErr r (λ f. IsEndedBy f said input w.journal.entries x.text z.text)
-    → (r ≡ Err OutOfMemory → IsShort said input z.left w.journal.entries x.text z.text) → (r ≡ Err Read → (count : ℕ) × IsReadOn count input z.left)
-    → (r ≡ Err InputFull → IsInputFull input z.left) → HasServed said (status_after r) input (Some w) x z
-served_of said r w input x z reads whole read_up begun ended short read_on full =
-    let P : SessionFault → Type 0 = λ f. IsEndedBy f said input w.journal.entries x.text z.text in
+pub served_of : {console : UserConsole} (said : Said) (r : Result ⊤ SessionFault) (w : Places) (input : List ℕ) (x z : Ports)
+    → IsReadFrom input z.left x.taken z.taken → OnOk r (IsWhole console said input w.journal.entries x.text z.text) → OnOk r (IsReadUp input z.left)
+    → IsBegun console said input w.journal.entries x.text z.text → IfErr r (λ f. IsEndedBy console f said input w.journal.entries x.text z.text)
+    → (r ≡ Err OutOfMemory → IsShort console said input z.left w.journal.entries x.text z.text) → (r ≡ Err Read → (count : ℕ) × IsReadOn count input z.left)
+    → (r ≡ Err InputFull → IsInputFull input z.left) → HasServed console said (status_after r) input (Some w) x z
+served_of {console} said r w input x z reads whole read_up begun ended short read_on full =
+    let P : SessionFault → Type 0 = λ f. IsEndedBy console f said input w.journal.entries x.text z.text in
     record {
       reads = reads;
       whole = λ s. ended_well r _ s whole;
@@ -156,9 +156,9 @@ served_of said r w input x z reads whole read_up begun ended short read_on full 
     between (inr b) f g = g b
 
 -- without a world, for want of memory, nothing was read or written
-pub served_none : (said : Said) (r : Result ⊤ SessionFault) (input : List ℕ) (x : Ports) → r ≡ Err OutOfMemory → x.left ≡ Some input
-    → HasServed said (status_after r) input None x x
-served_none said r input x e h = subst (λ q. HasServed said (status_after q) input None x x) (sym e) (record {
+pub served_none : {console : UserConsole} (said : Said) (r : Result ⊤ SessionFault) (input : List ℕ) (x : Ports) → r ≡ Err OutOfMemory → x.left ≡ Some input
+    → HasServed console said (status_after r) input None x x
+served_none {console} said r input x e h = subst (λ q. HasServed console said (status_after q) input None x x) (sym e) (record {
   reads = read_from_none input x.left x.taken h;
   whole = λ s. absurd (omega arith);
   read_up = λ s. absurd (omega arith);
@@ -180,15 +180,13 @@ served_none said r input x e h = subst (λ q. HasServed said (status_after q) in
 pub lawful_of : (w : Places) (flight : Option (List Frame)) (trace : Option (List Wire)) → IsWithin w.journal.entries
     → (IsCarried (rules w) [] w.journal.entries → KeepsPromises (rules w) w.journal.entries)
     → (IsCarried (rules w) [] w.journal.entries → IsAudit (rules w) w.journal.entries (audit_lines w.nodes))
-    → (NothingMoves (rules w) → IsCarried (rules w) [] w.journal.entries → StandAtHome (rules w) w.journal.entries (audit_lines w.nodes))
     → (IsCarried (rules w) [] w.journal.entries → IsQuiet w.nodes w.hand → StandWhereTold (rules w) w.journal.entries (audit_lines w.nodes))
     → IsCarrying (rules w) w.hand flight trace w.journal.entries → IsLawful w flight trace
-lawful_of w flight trace within promises audit at_home stand carrying = record {
+lawful_of w flight trace within promises audit stand carrying = record {
   granted = λ ample. all_granted (length w.nodes) w.profile w.journal.entries ample within.entries (promises carrying.carried);
   promises = promises carrying.carried;
   within = within;
   audit = audit carrying.carried;
-  at_home = at_home (still (length w.nodes) w.profile) carrying.carried;
   stand = stand carrying.carried;
   carrying = carrying;
 }

@@ -5,11 +5,10 @@ use Rattle.hpx_value.specs.declared.acts.Done.{Done}
 use Rattle.hpx_parcel.specs.declared.parcel.Why.{Why}
 use Rattle.hpx_journal.specs.Data.{Id}
 use Rattle.hpx_journal.specs.Entries.{Rules}
-use Rattle.hpx_journal.specs.Natives.{NothingMoves}
 use Rattle.hpx_journal.specs.Weights.{HasRoom}
 use Rattle.hpx_world.specs.declared.turns.WorldFault.{WorldFault}
 use Rattle.hpx_world.specs.declared.turns.WorldFault.TheVariants as faults
-use Rattle.hpx_world.specs.Refusals.{CanCome, CanComeOfSteps, RefusedDrain}
+use Rattle.hpx_world.specs.Refusals.{CanCome, RefusedDrain}
 use Rattle.hpx_world.specs.Sound.{Meaning}
 use Rattle.hpx_world.specs.Stages.{Stage}
 
@@ -22,15 +21,6 @@ module _ {A : Type 0} {g : Ghosts A} (r : Rules) (fault : WorldFault A g) where
 
   pub no_early : {sent taken : ℕ} → fault ≡ faults.EarlyEnd sent taken → CanCome r fault → ⊥
   no_early e h = subst (CanCome r) e h
-
-  pub no_bad_step : {to : ℕ} {at : ℕ} {why : Why} → fault ≡ faults.BadFrame to at why → CanComeOfSteps r fault → ⊥
-  no_bad_step e h = subst (CanComeOfSteps r) e h
-
-  pub no_strange_step : {to : ℕ} {rule : ℕ} {object : Id} {kept : ℕ} → fault ≡ faults.Strange to rule object kept → CanComeOfSteps r fault → ⊥
-  no_strange_step e h = subst (CanComeOfSteps r) e h
-
-  pub no_early_step : {sent taken : ℕ} → fault ≡ faults.EarlyEnd sent taken → NothingMoves r → CanComeOfSteps r fault → ⊥
-  no_early_step e still h = (subst (CanComeOfSteps r) e h).1 still
 
 -- a fabric that fails in steps had room
 pub fabric_room : {A : Type 0} {g : Ghosts A} (act_of : Meaning) (fault : WorldFault A g) (x z : Stage) → fault ≡ faults.Fabric → RefusedDrain act_of fault x z → HasRoom z.entries

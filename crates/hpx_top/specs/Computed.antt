@@ -11,18 +11,25 @@ use Rattle.app_compute.specs.FibLaw.{fed_line, fib_text}
 use Rattle.app_compute.specs.Ring.{stencil_texts}
 use Rattle.app_compute.specs.StencilLaw.{ring_fed}
 use Rattle.hpx_top.specs.declared.task.Task.{Task}
-use Rattle.hpx_top.specs.declared.task.Task.TheVariants.{Accumulator, Fib, Stencil}
+use Rattle.hpx_top.specs.declared.task.Task.TheVariants.{Console, Fib, Stencil}
+use Rattle.hpx_top.specs.declared.compute.Work.{Work}
+use Rattle.hpx_top.specs.declared.compute.Work.TheVariants.{Serves, Answers}
 use Rattle.hpx_top.specs.Session.{lines_fed, Feeds, FeedsAtMost, WritesFront}
 
 -- the one line that is fed for a task, if it has one
 abbrev pub task_line : Task → Option (List ℕ)
-task_line Accumulator = None
+task_line (Console console) = None
 task_line (Fib question) = Some (fed_line question.number question.threshold)
 task_line (Stencil shape) = Some (ring_fed shape.points shape.parts shape.steps)
 
+-- what is done for a task: the console that it is serves its input, or its line is answered
+abbrev pub IsWorkOf : Task → Work → Type 0
+IsWorkOf task (Serves console) = task ≡ Console console
+IsWorkOf task (Answers line) = task_line task ≡ Some line
+
 -- what it prints
 abbrev pub task_texts : Task → List (List ℕ)
-task_texts Accumulator = []
+task_texts (Console console) = []
 task_texts (Fib question) = fib_text question.number ∷ []
 task_texts (Stencil shape) = stencil_texts shape.points shape.steps
 

@@ -6,55 +6,58 @@ use Rattle.hpx_ports.specs.Told.{followed}
 use Rattle.hpx_top.specs.declared.session.SessionFault.{SessionFault}
 use Rattle.hpx_top.specs.declared.session.SessionFault.TheVariants.{Read, Write, OutOfMemory, InputFull}
 use Rattle.app_console.specs.Lines.{IsFront, is_long, is_quit, is_newline, IsPiece, lines_in, lines_of, quits, opening}
+use Rattle.hpx_top.specs.declared.consoles.UserConsole.{UserConsole}
+use Rattle.hpx_top.specs.declared.consoles.UserConsole.TheVariants.{Accumulator}
 use Rattle.hpx_top.specs.Texts.{Said, commands, fed, text_by}
 use Rattle.hpx_top.specs.Reader.{behind}
 use Rattle.hpx_top.specs.Session.{lines_fed, HasFed, AllButOne}
 
 -- the lines of the input were fed, up to its end or to `quit`, and the whole text was written
-pub record IsWhole (said : Said) (input : List ℕ) (entries : List Entry) (old new : Option (List ℕ)) : Type 0 where
-  pub lines : lines_fed entries ≡ fed (lines_of input)
-  pub text : new ≡ followed old (text_by said (lines_of input))
+pub record IsWhole (console : UserConsole) (said : Said) (input : List ℕ) (entries : List Entry) (old new : Option (List ℕ)) : Type 0 where
+  pub lines : lines_fed entries ≡ fed console (lines_of input)
+  pub text : new ≡ followed old (text_by console said (lines_of input))
 
 -- The first lines of the input were handled, and the text is theirs, with the prompt behind it. Of the next lines at most so
 -- many were fed.
-pub record IsBrokenOff (said : Said) (most : ℕ) (input : List ℕ) (entries : List Entry) (old new : Option (List ℕ)) : Type 0 where
+pub record IsBrokenOff (console : UserConsole) (said : Said) (most : ℕ) (input : List ℕ) (entries : List Entry) (old new : Option (List ℕ)) : Type 0 where
   pub handled : List (List ℕ)
   pub next : List (List ℕ)
   pub later : List (List ℕ)
   pub first : lines_of input ≡ (handled ++ next) ++ later
   pub few : length next ≤ most
-  pub lines : lines_fed entries ≡ fed (handled ++ next)
-  pub text : new ≡ followed old (text_by said handled)
+  pub lines : lines_fed entries ≡ fed console (handled ++ next)
+  pub text : new ≡ followed old (text_by console said handled)
 
 -- The first lines of the input were handled, and the text is theirs, with the prompt behind it. The next line, which is not
 -- too long, was to be fed, or was fed and what follows from it was to be done.
-pub record IsBrokenIn (said : Said) (input : List ℕ) (entries : List Entry) (old new : Option (List ℕ)) : Type 0 where
+pub record IsBrokenIn (console : UserConsole) (said : Said) (input : List ℕ) (entries : List Entry) (old new : Option (List ℕ)) : Type 0 where
   pub handled : List (List ℕ)
   pub line : List ℕ
   pub later : List (List ℕ)
   pub first : lines_of input ≡ handled ++ line ∷ later
   pub short : is_long line ≡ false
-  pub lines : (lines_fed entries ≡ fed handled) ⊎ (lines_fed entries ≡ fed (handled ++ line ∷ []))
-  pub text : new ≡ followed old (text_by said handled)
+  pub lines : (lines_fed entries ≡ fed console handled) ⊎ (lines_fed entries ≡ fed console (handled ++ line ∷ []))
+  pub text : new ≡ followed old (text_by console said handled)
 
 -- Behind the first text the accumulator was to be made: the line for it was to be fed, or was fed and what follows from it was to
--- be done. No line of the input was handled.
-pub record IsBrokenAtOpening (entries : List Entry) (old new : Option (List ℕ)) : Type 0 where
+-- be done. No line of the input was handled. Only the accumulator's console makes one.
+pub record IsBrokenAtOpening (console : UserConsole) (entries : List Entry) (old new : Option (List ℕ)) : Type 0 where
+  pub only : console ≡ Accumulator
   pub lines : (lines_fed entries ≡ []) ⊎ (lines_fed entries ≡ opening ∷ [])
-  pub text : new ≡ followed old commands
+  pub text : new ≡ followed old (commands console)
 
 -- The first lines of the input were fed. What was written begins the whole text, and comes of no line behind them. It is whole for
--- all of them but the last, or nothing was fed at all.
-pub record IsBegun (said : Said) (input : List ℕ) (entries : List Entry) (old new : Option (List ℕ)) : Type 0 where
+-- all of them but the last, or nothing was fed and none was handled.
+pub record IsBegun (console : UserConsole) (said : Said) (input : List ℕ) (entries : List Entry) (old new : Option (List ℕ)) : Type 0 where
   pub handled : List (List ℕ)
   pub later : List (List ℕ)
   pub first : lines_of input ≡ handled ++ later
-  pub lines : HasFed handled entries
+  pub lines : HasFed console handled entries
   pub text : List ℕ
   pub is : new ≡ followed old text
-  pub theirs : IsFront text (text_by said handled)
-  pub begins : IsFront text (text_by said (lines_of input))
-  pub almost : (lines_fed entries ≡ []) ⊎ AllButOne said handled text
+  pub theirs : IsFront text (text_by console said handled)
+  pub begins : IsFront text (text_by console said (lines_of input))
+  pub almost : ((lines_fed entries ≡ []) × (handled ≡ [])) ⊎ AllButOne console said handled text
 
 -- The first bytes of the input were read, as many as the count of the source rose by, and the others are left.
 pub record IsReadFrom (input : List ℕ) (left : Option (List ℕ)) (before after : ℕ) : Type 0 where
@@ -98,14 +101,14 @@ pub record IsFullBehind (lines : ℕ) (input : List ℕ) (left : Option (List �
 
 -- Memory was wanting at a line, or as the accumulator was made, before anything was read; not where the input is full behind the lines
 -- that were handled.
-abbrev pub IsShort : Said → List ℕ → Option (List ℕ) → List Entry → Option (List ℕ) → Option (List ℕ) → Type 0
-IsShort said input left entries old new =
-    ((b : IsBrokenOff said 1 input entries old new) × (IsFullBehind (length b.handled) input left → ⊥)) ⊎ (IsBrokenAtOpening entries old new × (left ≡ Some input))
+abbrev pub IsShort : UserConsole → Said → List ℕ → Option (List ℕ) → List Entry → Option (List ℕ) → Option (List ℕ) → Type 0
+IsShort console said input left entries old new =
+    ((b : IsBrokenOff console said 1 input entries old new) × (IsFullBehind (length b.handled) input left → ⊥)) ⊎ (IsBrokenAtOpening console entries old new × (left ≡ Some input))
 
 -- how a session was broken off: at a write anywhere, otherwise behind a prompt, or in the line behind it, or where the accumulator is made
-abbrev pub IsEndedBy : SessionFault → Said → List ℕ → List Entry → Option (List ℕ) → Option (List ℕ) → Type 0
-IsEndedBy Write said input entries old new = IsBegun said input entries old new
-IsEndedBy Read said input entries old new = IsBrokenOff said 0 input entries old new
-IsEndedBy InputFull said input entries old new = IsBrokenOff said 0 input entries old new
-IsEndedBy OutOfMemory said input entries old new = IsBrokenOff said 1 input entries old new ⊎ IsBrokenAtOpening entries old new
-IsEndedBy _ said input entries old new = IsBrokenIn said input entries old new ⊎ IsBrokenAtOpening entries old new
+abbrev pub IsEndedBy : UserConsole → SessionFault → Said → List ℕ → List Entry → Option (List ℕ) → Option (List ℕ) → Type 0
+IsEndedBy console Write said input entries old new = IsBegun console said input entries old new
+IsEndedBy console Read said input entries old new = IsBrokenOff console said 0 input entries old new
+IsEndedBy console InputFull said input entries old new = IsBrokenOff console said 0 input entries old new
+IsEndedBy console OutOfMemory said input entries old new = IsBrokenOff console said 1 input entries old new ⊎ IsBrokenAtOpening console entries old new
+IsEndedBy console _ said input entries old new = IsBrokenIn console said input entries old new ⊎ IsBrokenAtOpening console entries old new

@@ -8,13 +8,14 @@ use Rattle.hpx_steps.specs.Limits.{IsWithin}
 use Rattle.hpx_ports.specs.declared.fabric.Wire.{Wire}
 use Rattle.hpx_ports.specs.Faults.{Rose}
 use Rattle.hpx_ports.specs.Told.{followed}
-use Rattle.hpx_world.specs.Audit.{audit_lines, IsAudit, StandAtHome, StandWhereTold}
+use Rattle.hpx_world.specs.Audit.{audit_lines, IsAudit, StandWhereTold}
 use Rattle.hpx_world.specs.Away.{IsCarrying}
 use Rattle.hpx_world.specs.Places.{Places}
 use Rattle.hpx_world.specs.Quiet.{IsQuiet}
 use Rattle.hpx_world.specs.Promises.{KeepsPromises}
 use Rattle.hpx_top.specs.declared.task.Task.{Task}
-use Rattle.hpx_top.specs.declared.task.Task.TheVariants.{Accumulator}
+use Rattle.hpx_top.specs.declared.task.Task.TheVariants.{Console}
+use Rattle.hpx_top.specs.declared.consoles.UserConsole.{UserConsole}
 use Rattle.hpx_top.specs.Computed.{HasComputed, task_line, task_texts}
 use Rattle.hpx_top.specs.Ends.{IsWhole, IsBrokenOff, IsBrokenIn, IsBrokenAtOpening, IsBegun, IsShort, IsReadFrom, IsReadUp, IsReadOn, IsInputFull}
 use Rattle.hpx_top.specs.Session.{rules, entries_in, IsAmple, NoneRefused, AllGranted, AllDone, IsRested, WritesFront, shown_in}
@@ -73,15 +74,15 @@ pub record HasCause (status : ℕ) (world : Option Places) (x z : Ports) : Type 
 
 -- ---- texts
 
--- what the accumulator's console read and wrote of this input, by what is said for its lines
-pub record HasServed (said : Said) (status : ℕ) (input : List ℕ) (world : Option Places) (x z : Ports) : Type 0 where
+-- what a console read and wrote of this input, by what is said for its lines
+pub record HasServed (console : UserConsole) (said : Said) (status : ℕ) (input : List ℕ) (world : Option Places) (x z : Ports) : Type 0 where
   pub reads : IsReadFrom input z.left x.taken z.taken
-  pub whole : status ≡ 0 → IsWhole said input (entries_in world) x.text z.text
+  pub whole : status ≡ 0 → IsWhole console said input (entries_in world) x.text z.text
   pub read_up : status ≡ 0 → IsReadUp input z.left
-  pub begun : IsBegun said input (entries_in world) x.text z.text
-  pub between_lines : (status ≡ 2) ⊎ (status ≡ 9) → IsBrokenOff said 0 input (entries_in world) x.text z.text
-  pub in_a_line : (status ≡ 4) ⊎ (status ≡ 5) → IsBrokenIn said input (entries_in world) x.text z.text ⊎ IsBrokenAtOpening (entries_in world) x.text z.text
-  pub short : status ≡ 6 → IfSome world (λ w. IsShort said input z.left w.journal.entries x.text z.text)
+  pub begun : IsBegun console said input (entries_in world) x.text z.text
+  pub between_lines : (status ≡ 2) ⊎ (status ≡ 9) → IsBrokenOff console said 0 input (entries_in world) x.text z.text
+  pub in_a_line : (status ≡ 4) ⊎ (status ≡ 5) → IsBrokenIn console said input (entries_in world) x.text z.text ⊎ IsBrokenAtOpening console (entries_in world) x.text z.text
+  pub short : status ≡ 6 → IfSome world (λ w. IsShort console said input z.left w.journal.entries x.text z.text)
   pub read_on : status ≡ 2 → (count : ℕ) × IsReadOn count input z.left
   pub full : status ≡ 9 → IsInputFull input z.left
 
@@ -96,9 +97,10 @@ pub record HasDone (task : Task) (n : ℕ) (p : Profile) (status : ℕ) (world :
   pub unread : (line : List ℕ) → task_line task ≡ Some line → (z.left ≡ x.left) × (z.taken ≡ x.taken) × (z.read_faults ≡ x.read_faults)
   pub no_read : (line : List ℕ) → task_line task ≡ Some line → (status ≢ 2) × (status ≢ 9)
   pub reads : (input : List ℕ) → x.left ≡ Some input → IsReadFrom input z.left x.taken z.taken
-  pub served : task ≡ Accumulator → (input : List ℕ) → x.left ≡ Some input → HasServed (shown_in (entries_in world)) status input world x z
-  pub served_plainly : NoneRefused p (entries_in world) → task ≡ Accumulator → (input : List ℕ) → x.left ≡ Some input
-      → HasServed (lines_text n) status input world x z
+  pub served : (console : UserConsole) → task ≡ Console console → (input : List ℕ) → x.left ≡ Some input
+      → HasServed console (shown_in console (entries_in world)) status input world x z
+  pub served_plainly : NoneRefused p (entries_in world) → (console : UserConsole) → task ≡ Console console → (input : List ℕ) → x.left ≡ Some input
+      → HasServed console (lines_text console n) status input world x z
 
 -- What was done of a setup: first its task, which ended with a status, and left the ports so; then the values of the counters were
 -- written.
@@ -119,7 +121,6 @@ pub record IsLawful (w : Places) (flight : Option (List Frame)) (trace : Option 
   pub promises : KeepsPromises (rules w) w.journal.entries
   pub within : IsWithin w.journal.entries
   pub audit : IsAudit (rules w) w.journal.entries (audit_lines w.nodes)
-  pub at_home : StandAtHome (rules w) w.journal.entries (audit_lines w.nodes)
   pub stand : IsQuiet w.nodes w.hand → StandWhereTold (rules w) w.journal.entries (audit_lines w.nodes)
   pub carrying : IsCarrying (rules w) w.hand flight trace w.journal.entries
 

@@ -18,7 +18,9 @@ use Rattle.hpx_world.specs.Quiet.{IsQuiet, IsAtRest}
 use Rattle.app_console.specs.Lines.{IsFront, is_long, is_quit, IsPiece, before_quit, opening, others_of}
 use Rattle.app_console.specs.Text.{written}
 use Rattle.hpx_top.specs.Acts.{act_of}
-use Rattle.hpx_top.specs.Texts.{Said, commands, fed, lines_text, text_by}
+use Rattle.hpx_top.specs.declared.consoles.UserConsole.{UserConsole}
+use Rattle.hpx_top.specs.declared.consoles.UserConsole.TheVariants.{Accumulator, Space}
+use Rattle.hpx_top.specs.Texts.{Said, commands, fed, lines_text, mark_of, text_by}
 use Rattle.hpx_top.specs.declared.session.SessionFault.{SessionFault}
 use Rattle.hpx_top.specs.declared.session.SessionFault.TheVariants.{Read, Write, OutOfMemory, InputFull}
 use Rattle.hpx_top.specs.Reader.{Reading, input_left, lines_left, bytes_left, behind}
@@ -85,9 +87,14 @@ abbrev pub texts_fed : List Entry → List (List (List ℕ))
 texts_fed [] = []
 texts_fed (e ∷ es) = if is_line e.event then prints_first es ∷ texts_fed es else texts_fed es
 
+-- those for the lines of the user, which come behind the console's own
+abbrev pub texts_typed : UserConsole → List (List (List ℕ)) → List (List (List ℕ))
+texts_typed Accumulator texts = others_of texts
+texts_typed Space texts = texts
+
 -- what is said for lines by a journal: for each a prompt, and what the journal printed once it was fed
-abbrev pub shown_in : List Entry → Said
-shown_in entries lines = written lines (others_of (texts_fed entries))
+abbrev pub shown_in : UserConsole → List Entry → Said
+shown_in console entries lines = written lines (texts_typed console (texts_fed entries))
 
 -- the journal grew by what follows from a text that was fed
 pub record IsFed (text : List ℕ) (old new : List Entry) : Type 0 where
@@ -100,8 +107,8 @@ abbrev pub FeedsAtMost : List ℕ → List Entry → List Entry → Type 0
 FeedsAtMost text old new = (new ≡ old) ⊎ IsFed text old new
 
 -- what is fed for these lines was fed, or there are none and nothing was fed at all
-abbrev pub HasFed : List (List ℕ) → List Entry → Type 0
-HasFed lines entries = (lines_fed entries ≡ fed lines) ⊎ ((lines_fed entries ≡ []) × (lines ≡ []))
+abbrev pub HasFed : UserConsole → List (List ℕ) → List Entry → Type 0
+HasFed console lines entries = (lines_fed entries ≡ fed console lines) ⊎ ((lines_fed entries ≡ []) × (lines ≡ []))
 
 -- ---- what a session has done
 
@@ -118,8 +125,8 @@ pub record WritesUpTo (rest bytes : List ℕ) (old new : Option (List ℕ)) : Ty
   pub held : new ≡ followed old front
 
 -- what is said of the lines of a journal: by the journal, and where no action failed, by one plain space at n localities
-abbrev pub Tells : ℕ → List Entry → Said → Type 0
-Tells n entries said = (said ≡ shown_in entries) ⊎ (NoneFails entries × (said ≡ lines_text n))
+abbrev pub Tells : UserConsole → ℕ → List Entry → Said → Type 0
+Tells console n entries said = (said ≡ shown_in console entries) ⊎ (NoneFails entries × (said ≡ lines_text console n))
 
 -- the journal grew by what a text did: it was fed, and then nothing was left to do
 pub record Feeds (r : Rules) (text : List ℕ) (old new : List Entry) : Type 0 where
@@ -129,10 +136,15 @@ pub record Feeds (r : Rules) (text : List ℕ) (old new : List Entry) : Type 0 w
   pub legal : IsLegal r new
   pub settled : IsSettled r (replayed r new)
 
+-- before the first line the accumulator was made, or the journal stands
+abbrev pub HasOpened : UserConsole → Rules → List Entry → List Entry → Type 0
+HasOpened Accumulator r old new = Feeds r opening old new
+HasOpened Space r old new = new ≡ old
+
 -- the journal is a session of these lines
-pub record IsJournalOf (r : Rules) (lines : List (List ℕ)) (entries : List Entry) : Type 0 where
+pub record IsJournalOf (console : UserConsole) (r : Rules) (lines : List (List ℕ)) (entries : List Entry) : Type 0 where
   pub blocks : List (List Entry)
-  pub session : IsSession r [] (fed lines) blocks
+  pub session : IsSession r [] (fed console lines) blocks
   pub entries_are : entries ≡ entries_of blocks
 
 -- the first lines of an input were handled, none of them a quit, and the rest is left
@@ -141,80 +153,82 @@ pub record HandsOut (all left : Option (List (List ℕ))) (lines : List (List �
   pub goes_on : list_any is_quit lines ≡ false
 
 -- between two lines: those that were handled were fed, and what they print was written
-pub record IsServing (r : Rules) (all : Option (List (List ℕ))) (before : Option (List ℕ)) (reading : Reading) (left : Option (List ℕ))
+pub record IsServing (console : UserConsole) (r : Rules) (all : Option (List (List ℕ))) (before : Option (List ℕ)) (reading : Reading) (left : Option (List ℕ))
     (entries : List Entry) (now : Option (List ℕ)) : Type 0 where
   pub lines : List (List ℕ)
   pub handled : HandsOut all (lines_left reading left) lines
   pub few : length lines + bytes_left reading ≤ 67108864
-  pub journal : IsJournalOf r lines entries
-  pub held : now ≡ followed before (commands ++ shown_in entries lines)
+  pub journal : IsJournalOf console r lines entries
+  pub held : now ≡ followed before (commands console ++ shown_in console entries lines)
 
 -- so many were handled
-abbrev pub IsServingAt : ℕ → Rules → Option (List (List ℕ)) → Option (List ℕ) → Reading → Option (List ℕ) → List Entry → Option (List ℕ) → Type 0
-IsServingAt count r all before reading left entries now = (s : IsServing r all before reading left entries now) × (length s.lines ≡ count)
+abbrev pub IsServingAt : UserConsole → ℕ → Rules → Option (List (List ℕ)) → Option (List ℕ) → Reading → Option (List ℕ) → List Entry → Option (List ℕ) → Type 0
+IsServingAt console count r all before reading left entries now = (s : IsServing console r all before reading left entries now) × (length s.lines ≡ count)
 
 -- and the others are behind so many newlines of all bytes
-pub record IsHandling (r : Rules) (bytes : Option (List ℕ)) (all : Option (List (List ℕ))) (before : Option (List ℕ)) (reading : Reading) (left : Option (List ℕ))
+pub record IsHandling (console : UserConsole) (r : Rules) (bytes : Option (List ℕ)) (all : Option (List (List ℕ))) (before : Option (List ℕ)) (reading : Reading) (left : Option (List ℕ))
     (entries : List Entry) (now : Option (List ℕ)) : Type 0 where
   pub count : ℕ
-  pub serving : IsServingAt count r all before reading left entries now
+  pub serving : IsServingAt console count r all before reading left entries now
   pub behind_is : input_left reading left ≡ option_map (behind count) bytes
 
 -- After a prompt: the text is that of the lines that were handled. Of the lines behind them one may have been fed.
-pub record IsCut (said : Said) (most : ℕ) (all : Option (List (List ℕ))) (before : Option (List ℕ)) (entries : List Entry) (now : Option (List ℕ)) : Type 0 where
+pub record IsCut (console : UserConsole) (said : Said) (most : ℕ) (all : Option (List (List ℕ))) (before : Option (List ℕ)) (entries : List Entry) (now : Option (List ℕ)) : Type 0 where
   pub lines : List (List ℕ)
   pub next : List (List ℕ)
   pub left : Option (List (List ℕ))
   pub handled : HandsOut all left (lines ++ next)
   pub few : length next ≤ most
-  pub journal : lines_fed entries ≡ fed (lines ++ next)
-  pub held : now ≡ followed before (text_by said lines)
+  pub journal : lines_fed entries ≡ fed console (lines ++ next)
+  pub held : now ≡ followed before (text_by console said lines)
 
 -- so many were handled
-abbrev pub IsCutAt : ℕ → Said → ℕ → Option (List (List ℕ)) → Option (List ℕ) → List Entry → Option (List ℕ) → Type 0
-IsCutAt count said most all before entries now = (c : IsCut said most all before entries now) × (length c.lines ≡ count)
+abbrev pub IsCutAt : UserConsole → ℕ → Said → ℕ → Option (List (List ℕ)) → Option (List ℕ) → List Entry → Option (List ℕ) → Type 0
+IsCutAt console count said most all before entries now = (c : IsCut console said most all before entries now) × (length c.lines ≡ count)
 
 -- In a line behind a prompt: the text is that of the lines before it. It is not too long, and it may have been fed.
-pub record IsCutIn (said : Said) (all : Option (List (List ℕ))) (before : Option (List ℕ)) (entries : List Entry) (now : Option (List ℕ)) : Type 0 where
+pub record IsCutIn (console : UserConsole) (said : Said) (all : Option (List (List ℕ))) (before : Option (List ℕ)) (entries : List Entry) (now : Option (List ℕ)) : Type 0 where
   pub lines : List (List ℕ)
   pub line : List ℕ
   pub left : Option (List (List ℕ))
   pub handled : HandsOut all left (lines ++ line ∷ [])
   pub short : is_long line ≡ false
-  pub journal : (lines_fed entries ≡ fed lines) ⊎ (lines_fed entries ≡ fed (lines ++ line ∷ []))
-  pub held : now ≡ followed before (text_by said lines)
+  pub journal : (lines_fed entries ≡ fed console lines) ⊎ (lines_fed entries ≡ fed console (lines ++ line ∷ []))
+  pub held : now ≡ followed before (text_by console said lines)
 
--- Behind the first text, before the first prompt: the accumulator is to be made, and the line for it may have been fed.
-pub record IsCutAtOpening (before : Option (List ℕ)) (entries : List Entry) (now : Option (List ℕ)) : Type 0 where
+-- Behind the first text, before the first prompt: the accumulator is to be made, and the line for it may have been fed. Only its
+-- console makes one.
+pub record IsCutAtOpening (console : UserConsole) (before : Option (List ℕ)) (entries : List Entry) (now : Option (List ℕ)) : Type 0 where
+  pub only : console ≡ Accumulator
   pub journal : (lines_fed entries ≡ []) ⊎ (lines_fed entries ≡ opening ∷ [])
-  pub held : now ≡ followed before commands
+  pub held : now ≡ followed before (commands console)
 
 -- after the last prompt: all lines were handled, up to the end or to a quit
-pub record IsOver (said : Said) (ended : Bool) (all : Option (List (List ℕ))) (before : Option (List ℕ)) (entries : List Entry) (now : Option (List ℕ)) : Type 0 where
+pub record IsOver (console : UserConsole) (said : Said) (ended : Bool) (all : Option (List (List ℕ))) (before : Option (List ℕ)) (entries : List Entry) (now : Option (List ℕ)) : Type 0 where
   pub lines : List (List ℕ)
   pub left : Option (List (List ℕ))
   pub handled : HandsOut all left lines
   pub last : IfSome left (λ others. before_quit others ≡ [])
   pub read_up : (ended ≡ true) ⊎ IfSome all (λ lines. list_any is_quit lines ≡ true)
-  pub journal : lines_fed entries ≡ fed lines
-  pub held : now ≡ followed before (text_by said lines)
+  pub journal : lines_fed entries ≡ fed console lines
+  pub held : now ≡ followed before (text_by console said lines)
 
 -- the text of these lines, or of all but the last of them, was written whole
-pub record AllButOne (said : Said) (lines : List (List ℕ)) (text : List ℕ) : Type 0 where
+pub record AllButOne (console : UserConsole) (said : Said) (lines : List (List ℕ)) (text : List ℕ) : Type 0 where
   pub done : List (List ℕ)
   pub last : List (List ℕ)
   pub parts : lines ≡ done ++ last
   pub few : length last ≤ 1
-  pub written : IsFront (commands ++ said done) text
+  pub written : IsFront (commands console ++ said done) text
 
 -- wherever a session ends: what was written is the front of what the lines that were fed print, and is whole for all but the last
-pub record IsUnderWay (said : Said) (all : Option (List (List ℕ))) (before : Option (List ℕ)) (entries : List Entry) (now : Option (List ℕ)) : Type 0 where
+pub record IsUnderWay (console : UserConsole) (said : Said) (all : Option (List (List ℕ))) (before : Option (List ℕ)) (entries : List Entry) (now : Option (List ℕ)) : Type 0 where
   pub lines : List (List ℕ)
   pub left : Option (List (List ℕ))
   pub handled : HandsOut all left lines
-  pub journal : HasFed lines entries
-  pub written : WritesFront (text_by said lines) before now
-  pub almost : (lines_fed entries ≡ []) ⊎ AllButOne said lines written.front
+  pub journal : HasFed console lines entries
+  pub written : WritesFront (text_by console said lines) before now
+  pub almost : ((lines_fed entries ≡ []) × (lines ≡ [])) ⊎ AllButOne console said lines written.front
 
 -- the bytes that may be read were read, and behind the lines that were handled they hold no whole line
 pub record IsStopped (all : Option (List (List ℕ))) (reading : Reading) (left : Option (List ℕ)) : Type 0 where
@@ -226,16 +240,16 @@ pub record IsStopped (all : Option (List (List ℕ))) (reading : Reading) (left 
 -- ---- by the cause of an end
 
 -- a line was broken off: a write failed once it was handled, or it was fed once at most
-abbrev pub IsLineEndedBy : SessionFault → Rules → List ℕ → List Entry → List Entry → Option (List ℕ) → Option (List ℕ) → Type 0
-IsLineEndedBy Write r line old new before now = Feeds r (97 ∷ line) old new × WritesFront (concat (prints_of (drop (length old) new))) before now
-IsLineEndedBy Read r line old new before now = ⊥
-IsLineEndedBy InputFull r line old new before now = ⊥
-IsLineEndedBy _ r line old new before now = FeedsAtMost (97 ∷ line) old new × (now ≡ before)
+abbrev pub IsLineEndedBy : UserConsole → SessionFault → Rules → List ℕ → List Entry → List Entry → Option (List ℕ) → Option (List ℕ) → Type 0
+IsLineEndedBy console Write r line old new before now = Feeds r (mark_of console ∷ line) old new × WritesFront (concat (prints_of (drop (length old) new))) before now
+IsLineEndedBy console Read r line old new before now = ⊥
+IsLineEndedBy console InputFull r line old new before now = ⊥
+IsLineEndedBy console _ r line old new before now = FeedsAtMost (mark_of console ∷ line) old new × (now ≡ before)
 
 -- a session was broken off: at a write anywhere, otherwise behind a prompt, or in the line behind it
-abbrev pub IsCutBy : SessionFault → Said → Option (List (List ℕ)) → Option (List ℕ) → List Entry → Option (List ℕ) → Type 0
-IsCutBy Write said all before entries now = IsUnderWay said all before entries now
-IsCutBy Read said all before entries now = IsCut said 0 all before entries now
-IsCutBy InputFull said all before entries now = IsCut said 0 all before entries now
-IsCutBy OutOfMemory said all before entries now = IsCut said 1 all before entries now
-IsCutBy _ said all before entries now = IsCutIn said all before entries now
+abbrev pub IsCutBy : UserConsole → SessionFault → Said → Option (List (List ℕ)) → Option (List ℕ) → List Entry → Option (List ℕ) → Type 0
+IsCutBy console Write said all before entries now = IsUnderWay console said all before entries now
+IsCutBy console Read said all before entries now = IsCut console said 0 all before entries now
+IsCutBy console InputFull said all before entries now = IsCut console said 0 all before entries now
+IsCutBy console OutOfMemory said all before entries now = IsCut console said 1 all before entries now
+IsCutBy console _ said all before entries now = IsCutIn console said all before entries now

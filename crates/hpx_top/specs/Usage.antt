@@ -11,7 +11,8 @@ use Rattle.hpx_options.specs.Meanings.{Reading, Means, BadWord, reading_of}
 use Rattle.app_compute.specs.FibLaw.{IsQuestion}
 use Rattle.app_compute.specs.StencilLaw.{IsAsked}
 use Rattle.hpx_top.specs.declared.task.Task.{Task}
-use Rattle.hpx_top.specs.declared.task.Task.TheVariants.{Accumulator, Fib, Stencil}
+use Rattle.hpx_top.specs.declared.task.Task.TheVariants.{Console, Fib, Stencil}
+use Rattle.hpx_top.specs.declared.consoles.UserConsole.TheVariants.{Accumulator, Space}
 use Rattle.hpx_top.specs.declared.task.Setup.{Setup}
 use Rattle.hpx_top.specs.declared.task.Notice.{Notice}
 use Rattle.hpx_top.specs.declared.task.Notice.TheVariants.{Help, Version, Counters}
@@ -44,9 +45,10 @@ is_ring points parts steps =
 abbrev pub are_places : ℕ → Bool
 are_places n = nat_le 1 n && nat_le n 64
 
--- the application, where it is built: the accumulator, Fibonacci numbers, and rings
+-- the application, where it is built: both consoles, Fibonacci numbers, and rings
 abbrev pub task_of : App → Option Task
-task_of Apps.Accumulator = Some Accumulator
+task_of Apps.Accumulator = Some (Console Accumulator)
+task_of Apps.Space = Some (Console Space)
 task_of (Apps.Fib number threshold) = if are_asked number threshold then Some (Fib (record { number = number; threshold = threshold })) else None
 task_of (Apps.Stencil points parts steps) =
     if is_ring points parts steps then Some (Stencil (record { points = points; parts = parts; steps = steps })) else None
@@ -104,7 +106,7 @@ notice_in words = printed_of (request_in words)
 
 -- a task in the ranges of its numbers
 abbrev pub IsTask : Task → Type 0
-IsTask Accumulator = Unit {0}
+IsTask (Console console) = Unit {0}
 IsTask (Fib question) = IsQuestion question.number question.threshold
 IsTask (Stencil shape) = IsAsked shape.points shape.parts shape.steps
 

@@ -1,13 +1,12 @@
 //! What all actions do: sessions, name services, numbers and control objects, by their kinds.
 ghost use Rattle.std.specs.Prelude.{◌≡◌, IfOk};
-ghost use Rattle.hpx_top.specs.Acts.{all_of};
+ghost use Rattle.hpx_top.specs.Acts.{act_of};
 
 use app_compute::act::compute_act;
 use app_compute::computing::computing_act;
 use app_compute::session::computes;
 use app_console::act::{ACCUMULATOR_KIND, console_act};
 use app_console::stay::refused;
-use app_console::table::Consoles;
 use hpx_lco::act::lco_act;
 use hpx_names::act::names_act;
 use hpx_numbers::act::number_act;
@@ -18,8 +17,7 @@ use hpx_value::outcome::Outcome;
 use hpx_value::value::{Act, State};
 use std::alloc::Global;
 
-/// What actions do at a number of localities from 1 to 64, where a session reads the lines of the accumulator's console, or
-/// computes.
+/// What actions do at a number of localities from 1 to 64: a session reads the lines of both consoles, or computes.
 #[derive(Clone, Copy, Debug, PartialEq, Eq)]
 pub struct AllActs {
     pub localities: u32,
@@ -47,15 +45,7 @@ impl Acts for AllActs {
         state: &State,
         action: &Act,
     ) -> Result<Outcome, OutOfMemory> {
-        all_act(
-            alloc,
-            Consoles::Accumulator,
-            self.localities,
-            kind,
-            here,
-            state,
-            action,
-        )
+        all_act(alloc, self.localities, kind, here, state, action)
     }
 
     ghost keeps_laws = { keeps_laws };
@@ -63,19 +53,18 @@ impl Acts for AllActs {
     ghost is_blind = { is_blind };
 }
 
-/// The outcome of an action on an object of any kind, where a session reads the lines of these consoles, or computes. An
+/// The outcome of an action on an object of any kind. An
 /// `Err` is for want of memory, or where a hand has more than 65,535 places or continuations, as none has that is well formed.
-#[tactic(auto, unfolding(crate::specs::Acts::all_of, app_console::specs::Session::act_of))]
+#[tactic(auto, unfolding(crate::specs::Acts::act_of, app_console::specs::Session::act_of))]
 pub fn all_act(
     alloc: Global,
-    consoles: Consoles,
     localities: u32,
     kind: u32,
     here: u32,
     state: &State,
     action: &Act,
 ) -> Result<Outcome, OutOfMemory>
-    ensures { IfOk result (λ outcome. outcome ≡ all_of consoles localities kind here state.now action.now) }
+    ensures { IfOk result (λ outcome. outcome ≡ act_of localities kind here state.now action.now) }
 {
     if here >= localities || localities > MOST_LOCALITIES {
         return refused(alloc, state, action);
@@ -84,9 +73,7 @@ pub fn all_act(
         SESSION if computes(state, action) => {
             computing_act(alloc, here, localities, state, action)
         }
-        SESSION | ACCUMULATOR_KIND => {
-            console_act(alloc, consoles, kind, here, localities, state, action)
-        }
+        SESSION | ACCUMULATOR_KIND => { console_act(alloc, kind, here, localities, state, action) }
         PLAIN => compute_act(alloc, kind, here, localities, state, action),
         _ if kind < FIRST_MANAGED => names_act(alloc, kind, here, localities, state, action),
         _ if kind <= LAST_MOVABLE => number_act(alloc, kind, here, state, action),

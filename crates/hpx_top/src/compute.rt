@@ -1,16 +1,17 @@
 //! Applications that compute: one line is fed, and what it prints is written once all is done.
-ghost use Rattle.std.specs.Prelude.{◌≡◌, ◌≢◌, ◌≤◌, [], Err, Some, None, OnOk, IfOk, IfErr, IfSome, length};
+ghost use Rattle.std.specs.Prelude.{◌≡◌, ◌≢◌, ◌≤◌, [], Err, Ok, Some, None, OnOk, IfOk, IfErr, IfSome, length};
 ghost use Rattle.hpx_value.specs.Profiles.{IsValid};
 ghost use Rattle.hpx_journal.specs.Weights.{HasRoom};
 ghost use Rattle.hpx_ports.specs.Faults.{Rose};
 ghost use Rattle.hpx_world.specs.Away.{IsCarrying};
 ghost use Rattle.hpx_world.specs.Quiet.{IsQuiet};
-ghost use Rattle.hpx_top.specs.Computed.{IsAnswered, IsUnanswered, task_line};
+ghost use Rattle.hpx_top.specs.Computed.{IsAnswered, IsUnanswered, IsWorkOf};
 ghost use Rattle.hpx_top.specs.Runs.{ports_of, HasCause, HasEnded, IsLawful};
 ghost use Rattle.hpx_top.specs.Session.{rules, IsRested};
 ghost use Rattle.hpx_top.specs.Statuses.{IsStatus, status_after};
 
 use crate::acts::AllActs;
+use crate::consoles::UserConsole;
 use crate::session::{SessionFault, feed, show};
 use crate::task::Task;
 use app_compute::line::fib_line;
@@ -25,19 +26,29 @@ use hpx_value::profile::Profile;
 use hpx_world::world::World;
 use std::alloc::Global;
 
-/// The line that is fed for a task: none for a console.
-pub(crate) fn task_line(alloc: Global, task: Task) -> Result<Option<Text>, OutOfMemory>
-    ensures { IfOk result (λ line. line ≡ task_line task) }
+/// What is done for a task.
+#[derive(Drop)]
+pub(crate) enum Work {
+    /// A console serves its input.
+    Serves(UserConsole),
+    /// A line is answered.
+    Answers(Text),
+}
+
+/// What is done for a task. An `Err` is for want of memory for its line.
+pub(crate) fn work_of(alloc: Global, task: Task) -> Result<Work, OutOfMemory>
+    ensures work { IfOk result (λ work. IsWorkOf task work) }
+    ensures console { (console : UserConsole) → task ≡ Task.Console console → result ≡ Ok (Work.Serves console) }
 {
     match task {
-        Task::Accumulator => Ok(None),
+        Task::Console(console) => Ok(Work::Serves(console)),
         Task::Fib(question) => {
             let line = fib_line(alloc, question.number, question.threshold)?;
-            Ok(Some(marked(alloc, MARK, line.as_slice())?))
+            Ok(Work::Answers(marked(alloc, MARK, line.as_slice())?))
         }
         Task::Stencil(shape) => {
             let line = stencil_line(alloc, shape.points, shape.parts, shape.steps)?;
-            Ok(Some(marked(alloc, MARK, line.as_slice())?))
+            Ok(Work::Answers(marked(alloc, MARK, line.as_slice())?))
         }
     }
 }

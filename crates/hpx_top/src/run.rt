@@ -12,7 +12,8 @@ ghost use Rattle.hpx_top.specs.Statuses.{IsStatus, status_after, status_of, stat
 ghost use Rattle.hpx_top.specs.Usage.{IsRequest, IsSetup, bad_word, notice_in, request_in};
 
 use crate::acts::AllActs;
-use crate::compute::{compute_all, task_line};
+use crate::compute::{Work, compute_all, work_of};
+use crate::consoles::UserConsole;
 use crate::printed::{print, write_values};
 use crate::session::{SessionFault, serve};
 use crate::task::{Notice, Request, Setup, request_in};
@@ -62,10 +63,11 @@ fn say<E: Sink>(err: &mut E, line: &[u8])
     }
 }
 
-/// A session over so many localities, on a fabric in which nothing is in flight yet.
+/// A session of a console over so many localities, on a fabric in which nothing is in flight yet.
 #[tactic(auto, using(crate::proofs::Carried::carrying_start))]
 fn serve_all<S: Source, K: Sink, F: Fabric>(
     alloc: Global,
+    console: UserConsole,
     localities: u32,
     profile: Profile,
     source: &mut S,
@@ -80,8 +82,8 @@ fn serve_all<S: Source, K: Sink, F: Fabric>(
 
     ensures served { let x = ports_of (S.left source.old) (S.taken source.old) (K.held sink.old) (S.faults source.old) (K.faults sink.old) (F.faults fabric.old) in
         let z = ports_of (S.left source.new) (S.taken source.new) (K.held sink.new) (S.faults source.new) (K.faults sink.new) (F.faults fabric.new) in
-        (input : _) (said : _) → S.left source.old ≡ Some input → Tells localities (entries_in result.0) said →
-        HasServed said (status_after result.1) input result.0 x z }
+        (input : _) (said : _) → S.left source.old ≡ Some input → Tells console localities (entries_in result.0) said →
+        HasServed console said (status_after result.1) input result.0 x z }
     ensures cause { let x = ports_of (S.left source.old) (S.taken source.old) (K.held sink.old) (S.faults source.old) (K.faults sink.old) (F.faults fabric.old) in
         let z = ports_of (S.left source.new) (S.taken source.new) (K.held sink.new) (S.faults source.new) (K.faults sink.new) (F.faults fabric.new) in
         HasCause (status_after result.1) result.0 x z }
@@ -96,7 +98,7 @@ fn serve_all<S: Source, K: Sink, F: Fabric>(
         Ok(world) => world,
         Err(_) => return (None, Err(SessionFault::OutOfMemory)),
     };
-    let served = serve(alloc, &mut world, source, sink, fabric);
+    let served = serve(alloc, console, &mut world, source, sink, fabric);
     world.law();
     (Some(world), served)
 }
@@ -128,9 +130,11 @@ fn run_task<S: Source, K: Sink, F: Fabric>(
     ensures untouched { result.0 ≡ None → (source.new ≡ source.old) × (sink.new ≡ sink.old) × (fabric.new ≡ fabric.old) }
 {
     let (localities, profile) = (setup.localities, setup.profile);
-    match task_line(alloc, setup.task) {
-        Ok(None) => serve_all(alloc, localities, profile, source, sink, fabric),
-        Ok(Some(line)) => compute_all(alloc, localities, profile, line, sink, fabric),
+    match work_of(alloc, setup.task) {
+        Ok(Work::Serves(console)) => {
+            serve_all(alloc, console, localities, profile, source, sink, fabric)
+        }
+        Ok(Work::Answers(line)) => compute_all(alloc, localities, profile, line, sink, fabric),
         Err(OutOfMemory) => (None, Err(SessionFault::OutOfMemory)),
     }
 }

@@ -1,5 +1,5 @@
-//! A session of the console: each line that is read is fed, and what it prints is written.
-ghost use Rattle.std.specs.Prelude.{◌≡◌, ◌≢◌, ◌≤◌, ◌<◌, ◌+◌, ◌∷◌, ◌⊎◌, ℕ, [], Ok, Err, Some, OnOk, OnErr, IfErr, IfSome, length, drop, true, false, slice_get};
+//! A session of a console: each line that is read is fed, and what it prints is written.
+ghost use Rattle.std.specs.Prelude.{◌≡◌, ◌≢◌, ◌≤◌, ◌<◌, ◌+◌, ◌∷◌, ◌⊎◌, ℕ, [], Ok, Err, Some, OnOk, OnErr, IfErr, length, drop, true, false, slice_get};
 ghost use Rattle.std.specs.List.{concat};
 ghost use Rattle.std.specs.Option.{option_map};
 ghost use Rattle.hpx_journal.specs.Pool.{prints_by, prints_of};
@@ -14,16 +14,16 @@ ghost use Rattle.hpx_world.specs.Turns.{DidFeed};
 ghost use Rattle.hpx_world.specs.declared.turns.Turned.{Turned};
 ghost use Rattle.app_console.specs.Lines.{is_long, opening};
 ghost use Rattle.hpx_top.specs.Reader.{HasRead, IsOut, input_left, bytes_left, behind_line};
-ghost use Rattle.hpx_top.specs.Session.{rules, IsRested, FeedsAtMost, Feeds, Tells, IsLineEndedBy, WritesFront, IsServing, IsServingAt, IsCutAt, IsOver, IsCutBy, IsStopped};
+ghost use Rattle.hpx_top.specs.Texts.{mark_of};
+ghost use Rattle.hpx_top.specs.Session.{rules, IsRested, FeedsAtMost, Feeds, HasOpened, Tells, IsLineEndedBy, WritesFront, IsServing, IsServingAt, IsCutAt, IsOver, IsCutBy, IsStopped};
 ghost use Rattle.hpx_top.specs.Ends.{IsWhole, IsEndedBy, IsBegun, IsShort, IsReadFrom, IsReadUp, IsReadOn, IsInputFull};
 ghost use Rattle.hpx_top.specs.Runs.{ports_of, HasCause, HasServed};
 ghost use Rattle.hpx_top.specs.Statuses.{IsStatus, status_after};
 
 use crate::acts::AllActs;
+use crate::consoles::UserConsole;
 use crate::reader::{LineReader, Next, ReadFault};
-use app_console::lines::{ACCUMULATOR, PROMPT, TOO_LONG, marked, opening};
-use app_console::say::help;
-use app_console::table::Console;
+use app_console::lines::{PROMPT, TOO_LONG, marked, opening};
 use hpx_journal::entry::{Entry, Event};
 use hpx_journal::journal::Journal;
 use hpx_ports::fabric::Fabric;
@@ -235,7 +235,7 @@ pub(crate) fn feed<F: Fabric>(
 }
 
 /// Has the accumulator made.
-fn open<F: Fabric>(
+fn make_accumulator<F: Fabric>(
     alloc: Global,
     world: &mut World<AllActs>,
     fabric: &mut F,
@@ -264,9 +264,45 @@ fn open<F: Fabric>(
     }
 }
 
+/// What is done before the first line: the accumulator is made, or nothing.
+fn open<F: Fabric>(
+    alloc: Global,
+    console: UserConsole,
+    world: &mut World<AllActs>,
+    fabric: &mut F,
+) -> Result<(), SessionFault>
+    requires quiet { IsQuiet world.old.nodes world.old.hand }
+    requires carrying { IsCarrying (rules world.old) world.old.hand (F.flight fabric.old) (F.trace fabric.old) world.old.journal.entries }
+
+    ensures carrying { IsCarrying (rules world.new) world.new.hand (F.flight fabric.new) (F.trace fabric.new) world.new.journal.entries }
+    ensures count { length world.new.nodes ≡ length world.old.nodes }
+    ensures profile { world.new.profile ≡ world.old.profile }
+    ensures opened { OnOk result (HasOpened console (rules world.old) world.old.journal.entries world.new.journal.entries) }
+    ensures rest { OnOk result (IsRested world.new) }
+    ensures only { OnErr result (console ≡ UserConsole.Accumulator) }
+    ensures once { OnErr result (FeedsAtMost opening world.old.journal.entries world.new.journal.entries) }
+
+    ensures fabric { result ≡ Err SessionFault.Fabric → Rose (F.faults fabric.old) (F.faults fabric.new) }
+    ensures full { result ≡ Err SessionFault.JournalFull → HasRoom world.new.journal.entries → ⊥ }
+    ensures room { HasRoom world.old.journal.entries → result ≢ Err SessionFault.JournalFull → HasRoom world.new.journal.entries }
+    ensures other { (result ≢ Err SessionFault.Read) × (result ≢ Err SessionFault.Write) × (result ≢ Err SessionFault.InputFull) }
+    ensures no_frame { result ≢ Err SessionFault.BadFrame }
+    ensures no_parcel { result ≢ Err SessionFault.Strange }
+    ensures stands { result ≢ Err SessionFault.Fabric → F.faults fabric.new ≡ F.faults fabric.old }
+{
+    match console {
+        UserConsole::Accumulator => make_accumulator(alloc, world, fabric),
+        UserConsole::Space => {
+            world.law();
+            Ok(())
+        }
+    }
+}
+
 /// Feeds a line, and writes what it prints.
 fn serve_text<K: Sink, F: Fabric>(
     alloc: Global,
+    console: UserConsole,
     world: &mut World<AllActs>,
     line: &Text,
     sink: &mut K,
@@ -279,10 +315,10 @@ fn serve_text<K: Sink, F: Fabric>(
     ensures carrying { IsCarrying (rules world.new) world.new.hand (F.flight fabric.new) (F.trace fabric.new) world.new.journal.entries }
     ensures count { length world.new.nodes ≡ length world.old.nodes }
     ensures profile { world.new.profile ≡ world.old.profile }
-    ensures fed { OnOk result (Feeds (rules world.old) (97 ∷ line.now) world.old.journal.entries world.new.journal.entries) }
+    ensures fed { OnOk result (Feeds (rules world.old) (mark_of console ∷ line.now) world.old.journal.entries world.new.journal.entries) }
     ensures rest { OnOk result (IsRested world.new) }
     ensures held { OnOk result (K.held sink.new ≡ followed (K.held sink.old) (concat (prints_of (drop (length world.old.journal.entries) world.new.journal.entries)))) }
-    ensures err { IfErr result (λ fault. IsLineEndedBy fault (rules world.old) line.now world.old.journal.entries world.new.journal.entries (K.held sink.old) (K.held sink.new)) }
+    ensures err { IfErr result (λ fault. IsLineEndedBy console fault (rules world.old) line.now world.old.journal.entries world.new.journal.entries (K.held sink.old) (K.held sink.new)) }
 
     ensures write { result ≡ Err SessionFault.Write → Rose (K.faults sink.old) (K.faults sink.new) }
     ensures fabric { result ≡ Err SessionFault.Fabric → Rose (F.faults fabric.old) (F.faults fabric.new) }
@@ -294,7 +330,7 @@ fn serve_text<K: Sink, F: Fabric>(
     ensures fabric_only { result ≢ Err SessionFault.Fabric → F.faults fabric.new ≡ F.faults fabric.old }
 {
     let cut = world.journal().entries();
-    let Ok(text) = marked(alloc, ACCUMULATOR, line.as_slice()) else {
+    let Ok(text) = marked(alloc, console.mark(), line.as_slice()) else {
         return Err(SessionFault::OutOfMemory);
     };
     feed(alloc, world, text, fabric)?;
@@ -304,6 +340,7 @@ fn serve_text<K: Sink, F: Fabric>(
 /// One line: a prompt, and what the line prints. False where the lines end.
 fn serve_line<S: Source, K: Sink, F: Fabric>(
     alloc: Global,
+    console: UserConsole,
     world: &mut World<AllActs>,
     reader: &mut LineReader,
     source: &mut S,
@@ -316,26 +353,26 @@ fn serve_line<S: Source, K: Sink, F: Fabric>(
     requires carrying { IsCarrying (rules world.old) world.old.hand (F.flight fabric.old) (F.trace fabric.old) world.old.journal.entries }
 
     ensures line { result ≡ Ok true → (all : _) (before : _) (count : ℕ) →
-        IsServingAt count (rules world.old) all before reader.old (S.left source.old) world.old.journal.entries (K.held sink.old) →
-        IsServingAt (count + 1) (rules world.old) all before reader.new (S.left source.new) world.new.journal.entries (K.held sink.new) }
+        IsServingAt console count (rules world.old) all before reader.old (S.left source.old) world.old.journal.entries (K.held sink.old) →
+        IsServingAt console (count + 1) (rules world.old) all before reader.new (S.left source.new) world.new.journal.entries (K.held sink.new) }
     ensures behind { result ≡ Ok true → input_left reader.new (S.left source.new) ≡ option_map behind_line (input_left reader.old (S.left source.old)) }
     ensures short { result ≡ Err SessionFault.OutOfMemory → (all : _) (before : _) (count : ℕ) →
-        IsServingAt count (rules world.old) all before reader.old (S.left source.old) world.old.journal.entries (K.held sink.old) →
-        (said : _) → Tells (length world.old.nodes) world.new.journal.entries said →
-        IsCutAt count said 1 all before world.new.journal.entries (K.held sink.new) }
+        IsServingAt console count (rules world.old) all before reader.old (S.left source.old) world.old.journal.entries (K.held sink.old) →
+        (said : _) → Tells console (length world.old.nodes) world.new.journal.entries said →
+        IsCutAt console count said 1 all before world.new.journal.entries (K.held sink.new) }
     ensures over { result ≡ Ok false → (all : _) (before : _) →
-        IsServing (rules world.old) all before reader.old (S.left source.old) world.old.journal.entries (K.held sink.old) →
-        (said : _) → Tells (length world.old.nodes) world.new.journal.entries said →
-        IsOver said reader.new.ended all before world.new.journal.entries (K.held sink.new) }
+        IsServing console (rules world.old) all before reader.old (S.left source.old) world.old.journal.entries (K.held sink.old) →
+        (said : _) → Tells console (length world.old.nodes) world.new.journal.entries said →
+        IsOver console said reader.new.ended all before world.new.journal.entries (K.held sink.new) }
     ensures err { IfErr result (λ fault. (all : _) (before : _) →
-        IsServing (rules world.old) all before reader.old (S.left source.old) world.old.journal.entries (K.held sink.old) →
-        (said : _) → Tells (length world.old.nodes) world.new.journal.entries said →
-        IsCutBy fault said all before world.new.journal.entries (K.held sink.new)) }
+        IsServing console (rules world.old) all before reader.old (S.left source.old) world.old.journal.entries (K.held sink.old) →
+        (said : _) → Tells console (length world.old.nodes) world.new.journal.entries said →
+        IsCutBy console fault said all before world.new.journal.entries (K.held sink.new)) }
     ensures input { result ≡ Err SessionFault.InputFull → (all : _) (before : _) →
-        IsServing (rules world.old) all before reader.old (S.left source.old) world.old.journal.entries (K.held sink.old) →
+        IsServing console (rules world.old) all before reader.old (S.left source.old) world.old.journal.entries (K.held sink.old) →
         IsStopped all reader.new (S.left source.new) }
     ensures read_on { result ≡ Err SessionFault.Read → (all : _) (before : _) →
-        IsServing (rules world.old) all before reader.old (S.left source.old) world.old.journal.entries (K.held sink.old) →
+        IsServing console (rules world.old) all before reader.old (S.left source.old) world.old.journal.entries (K.held sink.old) →
         IsStopped all reader.new (S.left source.new) }
     ensures reads { (all : _) → HasRead all reader.old (S.left source.old) → HasRead all reader.new (S.left source.new) }
     ensures counted { reader.new.read + S.taken source.old ≡ reader.old.read + S.taken source.new }
@@ -363,7 +400,7 @@ fn serve_line<S: Source, K: Sink, F: Fabric>(
     write(sink, PROMPT)?;
     match reader.next_line(alloc, source) {
         Ok(Next::Line(line)) => {
-            serve_text(alloc, world, &line, sink, fabric)?;
+            serve_text(alloc, console, world, &line, sink, fabric)?;
             Ok(true)
         }
         Ok(Next::Long) => {
@@ -378,9 +415,10 @@ fn serve_line<S: Source, K: Sink, F: Fabric>(
     }
 }
 
-/// Writes the commands, has the accumulator made, and serves each line.
+/// Writes the commands, does what comes before the first line, and serves each line.
 fn serve_lines<S: Source, K: Sink, F: Fabric>(
     alloc: Global,
+    console: UserConsole,
     world: &mut World<AllActs>,
     source: &mut S,
     sink: &mut K,
@@ -392,17 +430,17 @@ fn serve_lines<S: Source, K: Sink, F: Fabric>(
     requires quiet { IsQuiet world.old.nodes world.old.hand }
     requires carrying { IsCarrying (rules world.old) world.old.hand (F.flight fabric.old) (F.trace fabric.old) world.old.journal.entries }
 
-    ensures whole { (input : _) (said : _) → S.left source.old ≡ Some input → Tells (length world.old.nodes) world.new.journal.entries said →
-        OnOk result (IsWhole said input world.new.journal.entries (K.held sink.old) (K.held sink.new)) }
+    ensures whole { (input : _) (said : _) → S.left source.old ≡ Some input → Tells console (length world.old.nodes) world.new.journal.entries said →
+        OnOk result (IsWhole console said input world.new.journal.entries (K.held sink.old) (K.held sink.new)) }
     ensures reads { (input : _) → S.left source.old ≡ Some input → IsReadFrom input (S.left source.new) (S.taken source.old) (S.taken source.new) }
     ensures limit { S.taken source.new ≤ S.taken source.old + 67108864 }
     ensures read_up { (input : _) → S.left source.old ≡ Some input → OnOk result (IsReadUp input (S.left source.new)) }
-    ensures ended { (input : _) (said : _) → S.left source.old ≡ Some input → Tells (length world.old.nodes) world.new.journal.entries said →
-        IfErr result (λ fault. IsEndedBy fault said input world.new.journal.entries (K.held sink.old) (K.held sink.new)) }
-    ensures short { (input : _) (said : _) → S.left source.old ≡ Some input → Tells (length world.old.nodes) world.new.journal.entries said →
-        result ≡ Err SessionFault.OutOfMemory → IsShort said input (S.left source.new) world.new.journal.entries (K.held sink.old) (K.held sink.new) }
-    ensures begun { (input : _) (said : _) → S.left source.old ≡ Some input → Tells (length world.old.nodes) world.new.journal.entries said →
-        IsBegun said input world.new.journal.entries (K.held sink.old) (K.held sink.new) }
+    ensures ended { (input : _) (said : _) → S.left source.old ≡ Some input → Tells console (length world.old.nodes) world.new.journal.entries said →
+        IfErr result (λ fault. IsEndedBy console fault said input world.new.journal.entries (K.held sink.old) (K.held sink.new)) }
+    ensures short { (input : _) (said : _) → S.left source.old ≡ Some input → Tells console (length world.old.nodes) world.new.journal.entries said →
+        result ≡ Err SessionFault.OutOfMemory → IsShort console said input (S.left source.new) world.new.journal.entries (K.held sink.old) (K.held sink.new) }
+    ensures begun { (input : _) (said : _) → S.left source.old ≡ Some input → Tells console (length world.old.nodes) world.new.journal.entries said →
+        IsBegun console said input world.new.journal.entries (K.held sink.old) (K.held sink.new) }
     ensures input { (input : _) → S.left source.old ≡ Some input → result ≡ Err SessionFault.InputFull → IsInputFull input (S.left source.new) }
     ensures read_on { (input : _) → S.left source.old ≡ Some input → result ≡ Err SessionFault.Read → (n : ℕ) × IsReadOn n input (S.left source.new) }
     ensures taken { result ≡ Err SessionFault.InputFull → S.taken source.new ≡ S.taken source.old + 67108864 }
@@ -423,16 +461,17 @@ fn serve_lines<S: Source, K: Sink, F: Fabric>(
     ensures write_only { result ≢ Err SessionFault.Write → K.faults sink.new ≡ K.faults sink.old }
     ensures fabric_only { result ≢ Err SessionFault.Fabric → F.faults fabric.new ≡ F.faults fabric.old }
 {
-    write(sink, help(Console::Accumulator))?;
-    open(alloc, world, fabric)?;
+    write(sink, console.commands())?;
+    open(alloc, console, world, fabric)?;
     let mut reader = LineReader::new(alloc);
-    while serve_line(alloc, world, &mut reader, source, sink, fabric)? {}
+    while serve_line(alloc, console, world, &mut reader, source, sink, fabric)? {}
     Ok(())
 }
 
-/// A session, from the first text to the last prompt. Its world is at boot.
+/// A session of a console, from the first text to the last prompt. Its world is at boot.
 pub fn serve<S: Source, K: Sink, F: Fabric>(
     alloc: Global,
+    console: UserConsole,
     world: &mut World<AllActs>,
     source: &mut S,
     sink: &mut K,
@@ -446,8 +485,8 @@ pub fn serve<S: Source, K: Sink, F: Fabric>(
 
     ensures served { let x = ports_of (S.left source.old) (S.taken source.old) (K.held sink.old) (S.faults source.old) (K.faults sink.old) (F.faults fabric.old) in
         let z = ports_of (S.left source.new) (S.taken source.new) (K.held sink.new) (S.faults source.new) (K.faults sink.new) (F.faults fabric.new) in
-        (input : _) (said : _) → S.left source.old ≡ Some input → Tells (length world.old.nodes) world.new.journal.entries said →
-        HasServed said (status_after result) input (Some world.new) x z }
+        (input : _) (said : _) → S.left source.old ≡ Some input → Tells console (length world.old.nodes) world.new.journal.entries said →
+        HasServed console said (status_after result) input (Some world.new) x z }
     ensures cause { let x = ports_of (S.left source.old) (S.taken source.old) (K.held sink.old) (S.faults source.old) (K.faults sink.old) (F.faults fabric.old) in
         let z = ports_of (S.left source.new) (S.taken source.new) (K.held sink.new) (S.faults source.new) (K.faults sink.new) (F.faults fabric.new) in
         HasCause (status_after result) (Some world.new) x z }
@@ -457,5 +496,5 @@ pub fn serve<S: Source, K: Sink, F: Fabric>(
     ensures count { length world.new.nodes ≡ length world.old.nodes }
     ensures profile { world.new.profile ≡ world.old.profile }
 {
-    serve_lines(alloc, world, source, sink, fabric)
+    serve_lines(alloc, console, world, source, sink, fabric)
 }

@@ -2,6 +2,7 @@
 ghost use Rattle.std.specs.Prelude.{◌≡◌};
 ghost use Rattle.hpx_top.specs.Usage.{are_asked, are_places, is_plain, is_ring, is_tuned, request_in, request_of, setup_of, task_of};
 
+use crate::consoles::UserConsole;
 use app_compute::line::Question;
 use app_compute::shape::Shape;
 use hpx_options::options::read;
@@ -12,8 +13,8 @@ use hpx_value::profile::Profile;
 /// An application that is run.
 #[derive(Clone, Copy, Debug, PartialEq, Eq)]
 pub enum Task {
-    /// The accumulator's console.
-    Accumulator,
+    /// A console serves its input.
+    Console(UserConsole),
     /// A Fibonacci number is computed.
     Fib(Question),
     /// A ring of points is stepped.
@@ -105,7 +106,8 @@ fn task_of(app: App) -> Option<Task>
     ensures { result ≡ task_of app }
 {
     match app {
-        App::Accumulator => Some(Task::Accumulator),
+        App::Accumulator => Some(Task::Console(UserConsole::Accumulator)),
+        App::Space => Some(Task::Console(UserConsole::Space)),
         App::Fib { n, threshold } => are_asked(n, threshold).then_some(Task::Fib(Question {
             number: n,
             threshold,

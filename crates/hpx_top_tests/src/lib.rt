@@ -11,3 +11,5 @@ mod limits;
 mod lines;
 #[cfg(test)]
 mod runs;
+#[cfg(test)]
+mod spaces;

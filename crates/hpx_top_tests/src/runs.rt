@@ -20,15 +20,15 @@ pub const COMMANDS: &[u8] = b"commands: reset, add [amount], query, help, quit\n
 
 /// Which calls of the ports fail, by their numbers from 1.
 #[derive(Clone, Copy)]
-struct Faults<'a> {
-    reads: &'a [u64],
-    writes: &'a [u64],
-    errors: &'a [u64],
-    sends: &'a [u64],
-    delivers: &'a [u64],
+pub struct Faults<'a> {
+    pub reads: &'a [u64],
+    pub writes: &'a [u64],
+    pub errors: &'a [u64],
+    pub sends: &'a [u64],
+    pub delivers: &'a [u64],
 }
 
-const NONE: Faults = Faults {
+pub const NONE: Faults = Faults {
     reads: &[],
     writes: &[],
     errors: &[],
@@ -83,7 +83,7 @@ fn run_over(
 }
 
 /// The run on these words over this input.
-fn ran(
+pub fn ran(
     alloc: Global,
     given: &[&[u8]],
     input: &[u8],
@@ -307,7 +307,7 @@ const WORD_ROWS: &[(&[&[u8]], u8, &[u8])] = &[
     (&[], 1, b"hpx: bad word 0\n"),
     (&[b"fob"], 1, b"hpx: bad word 1\n"),
     // What is not built yet.
-    (&[b"space"], 1, b"hpx: bad word 0\n"),
+    (&[b"load"], 1, b"hpx: bad word 0\n"),
     (
         &[b"accumulator", b"--hpx:threads=2"],
         1,

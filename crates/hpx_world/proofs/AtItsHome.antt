@@ -106,6 +106,26 @@ module _ (r : Rules) (k : ℕ) (o : Id) where
       none true = refl
       none false = refl
 
+  -- so it is with all of them
+  pub placed_comes : (j : ℕ) (es : List Entry) → all_count (flow_comes r k (PlacedAt o j)) es
+      ≡ all_count (come r (go_for o j k)) es + (all_count (come r (tells_at o j)) es + cond (j == k) (all_count (λ e. one_if (is_landed_of o e)) es) 0)
+  placed_comes j es = omega (
+    arith,
+    all_same (flow_comes r k (PlacedAt o j)) (λ e. come r (go_for o j k) e + (come r (tells_at o j) e + cond (j == k) (one_if (is_landed_of o e)) 0)) es (places_come j),
+    two_counts (come r (go_for o j k)) (λ e. come r (tells_at o j) e + cond (j == k) (one_if (is_landed_of o e)) 0) es,
+    two_counts (come r (tells_at o j)) (λ e. cond (j == k) (one_if (is_landed_of o e)) 0) es,
+    count_if (j == k) (λ e. one_if (is_landed_of o e)) es,
+  )
+
+  pub placed_goes : (j : ℕ) (es : List Entry) → all_count (flow_goes r k (PlacedAt o j)) es
+      ≡ all_count (gone_to r j (grants_of o)) es + cond (j == k) (all_count (λ e. one_if (is_left_of o e)) es) 0
+  placed_goes j es = omega (
+    arith,
+    all_same (flow_goes r k (PlacedAt o j)) (λ e. gone_to r j (grants_of o) e + cond (j == k) (one_if (is_left_of o e)) 0) es (places_go j),
+    two_counts (gone_to r j (grants_of o)) (λ e. cond (j == k) (one_if (is_left_of o e)) 0) es,
+    count_if (j == k) (λ e. one_if (is_left_of o e)) es,
+  )
+
 -- ---- what is here
 
 module _ (t : Tables) (o : Id) where
@@ -237,13 +257,8 @@ module _ (r : Rules) (log : ℕ) (es : List Entry) (o : Id) (t : Tables) (s : Is
           for_list o j t.here t.leaving,
           same_sum (λ (y : Outgoing). go_for o j y.to y.parcel) (λ (y : Outgoing). cond (y.to == j) (grants_of o y.parcel) 0) t.outgoing (λ y. for_is o j y.to y.parcel),
           none_sum IsStray (go_for o j t.here) t.stray (stray_for o j t.here) s.tidy.stray,
-          all_same (flow_comes r t.here (PlacedAt o j)) (λ e. come r (go_for o j t.here) e + (come r (tells_at o j) e + cond (j == t.here) (one_if (is_landed_of o e)) 0)) (part o.home es) (places_come r t.here o j),
-          two_counts (come r (go_for o j t.here)) (λ e. come r (tells_at o j) e + cond (j == t.here) (one_if (is_landed_of o e)) 0) (part o.home es),
-          two_counts (come r (tells_at o j)) (λ e. cond (j == t.here) (one_if (is_landed_of o e)) 0) (part o.home es),
-          count_if (j == t.here) (λ e. one_if (is_landed_of o e)) (part o.home es),
-          all_same (flow_goes r t.here (PlacedAt o j)) (λ e. gone_to r j (grants_of o) e + cond (j == t.here) (one_if (is_left_of o e)) 0) (part o.home es) (places_go r t.here o j),
-          two_counts (gone_to r j (grants_of o)) (λ e. cond (j == t.here) (one_if (is_left_of o e)) 0) (part o.home es),
-          count_if (j == t.here) (λ e. one_if (is_left_of o e)) (part o.home es),
+          placed_comes r t.here o j (part o.home es),
+          placed_goes r t.here o j (part o.home es),
         ))
   ]
 

@@ -10,15 +10,16 @@ use Rattle.hpx_journal.specs.Entries.{Rules}
 use Rattle.hpx_journal.specs.Laws.{road_run}
 use Rattle.hpx_journal.specs.Moving.{IsCounted, IsOnTheRoad, MoveCounts, at_home, going, untold}
 use Rattle.hpx_journal.specs.Whole.{recorded_in, replayed}
-use Rattle.hpx_journal.proofs.Bags.{total-add, total-same, total-zero}
+use Rattle.hpx_journal.proofs.Bags.{total-add, total-le, total-same, total-zero}
 use Rattle.hpx_part.specs.Data.{Entry}
 use Rattle.hpx_agas.specs.declared.record.Record.{Record}
 use Rattle.hpx_steps.specs.Rest.{bound_for}
 use Rattle.hpx_steps.specs.Rows.{go_to, one_if, ship_to, tell_of, tells_at}
-use Rattle.hpx_tables.specs.Tables.{Tables, IsPassive}
+use Rattle.hpx_tables.specs.Tables.{Tables}
 use Rattle.hpx_tables.specs.declared.kept.Arrival.{Arrival}
 use Rattle.hpx_tables.specs.declared.kept.Outgoing.{Outgoing}
 use Rattle.hpx_world.specs.Tracks.{at_node, kept_for, kept_mail}
+use Rattle.hpx_world.proofs.Cleared.{IsCleared}
 use Rattle.hpx_world.proofs.Counted.{AreNodes, at_is, counted, home, on_its_road}
 use Rattle.hpx_world.proofs.Known.{IsJoined}
 use Rattle.hpx_world.proofs.Traffic.{bound, total_one}
@@ -79,7 +80,7 @@ module _ (n h : ℕ) (m : MoveCounts) (cm : IsCounted n h m) (road : IsOnTheRoad
       turned k = ap (λ b. cond b 1 0) (Rattle.hpx_steps.proofs.ByRows.eq_turned k h)
 
 module _ (r : Rules) (log : ℕ) (nodes : List Tables) (es : List Entry) (joined : IsJoined r es) (each : AreNodes r log nodes es)
-    (quiet : road_run [] es ≡ []) (passive : (k : ℕ) (t : Tables) → slice_get nodes k ≡ Some t → IsPassive t)
+    (quiet : road_run [] es ≡ []) (cleared : (k : ℕ) (t : Tables) → slice_get nodes k ≡ Some t → IsCleared t)
     (o : Id) (managed : 16 ≤ o.kind) (some : 1 ≤ recorded_in o (replayed r es)) where
   abbrev m : MoveCounts
   m = c r log nodes es joined each o managed some
@@ -91,13 +92,13 @@ module _ (r : Rules) (log : ℕ) (nodes : List Tables) (es : List Entry) (joined
   none_kept : (w : Parcel → ℕ) (k : ℕ) → k < r.localities → at_node nodes (kept_mail w) k ≡ 0
   none_kept w k lt =
       let x = each.node k lt in
-      let p = passive k x.0 x.1 in
+      let p = cleared k x.0 x.1 in
       at_is nodes (kept_mail w) k x.0 x.1 ∙ omega (arith, ap (sum_by w) p.desk, ap (sum_by (λ (y : Outgoing). w y.parcel)) p.outgoing)
 
   none_for : (w : Parcel → ℕ) (k : ℕ) → at_node nodes (kept_for w k) o.home ≡ 0
   none_for w k =
       let x = each.node o.home its_home in
-      let p = passive o.home x.0 x.1 in
+      let p = cleared o.home x.0 x.1 in
       at_is nodes (kept_for w k) o.home x.0 x.1 ∙ (ap (λ (ps : List Parcel). cond (k == x.0.here) (sum_by w ps) (sum_by (bound_for k w) x.0.outgoing)) p.desk
       ∙ (ap (λ (xs : List Outgoing). cond (k == x.0.here) 0 (sum_by (bound_for k w) xs)) p.outgoing ∙ either (k == x.0.here)))
     where
@@ -111,13 +112,13 @@ module _ (r : Rules) (log : ℕ) (nodes : List Tables) (es : List Entry) (joined
   none_leaving : (t k : ℕ) → k < r.localities → m.leaving t k ≡ 0
   none_leaving t k lt =
       let x = each.node k lt in
-      at_is nodes (λ (y : Tables). sum_by (go_to o t) y.leaving) k x.0 x.1 ∙ ap (sum_by (go_to o t)) (passive k x.0 x.1).leaving
+      at_is nodes (λ (y : Tables). sum_by (go_to o t) y.leaving) k x.0 x.1 ∙ ap (sum_by (go_to o t)) (cleared k x.0 x.1).leaving
 
   none_came : (k : ℕ) → k < r.localities → m.came k ≡ 0
   none_came k lt =
       let x = each.node k lt in
       at_is nodes (λ (y : Tables). count_by (λ (a : Arrival). same_object o a.object) y.came) k x.0 x.1
-      ∙ ap (count_by (λ (a : Arrival). same_object o a.object)) (passive k x.0 x.1).came
+      ∙ ap (count_by (λ (a : Arrival). same_object o a.object)) (cleared k x.0 x.1).came
 
   none_go : (t k : ℕ) → t < r.localities → k < r.localities → going m t k ≡ 0
   none_go t k lt within = omega (arith, none_for (go_to o t) k, none_on_road (go_to o t) k, none_leaving t k within)
@@ -132,7 +133,8 @@ module _ (r : Rules) (log : ℕ) (nodes : List Tables) (es : List Entry) (joined
   abbrev pub its_place : Record
   its_place = (its_record r log nodes es joined each o managed some).0
 
-  still : is_some its_place.moving ≡ false
+  -- which says that it does not move
+  pub still : is_some its_place.moving ≡ false
   still = elim (Rattle.std.proofs.lemmas.Bool.cases_Bool (is_some its_place.moving)) [
     | inr f ↦ f
     | inl t ↦ absurd (omega (
@@ -142,7 +144,19 @@ module _ (r : Rules) (log : ℕ) (nodes : List Tables) (es : List Entry) (joined
     ))
   ]
 
-  -- it stands there
+  -- it stands somewhere
+  pub stands_once : 1 ≤ total r.localities (λ k. m.stands k)
+  stands_once = omega (
+    arith,
+    once,
+    total-le r.localities (λ k. m.settled k) (λ k. m.stands k) (λ k lt. omega (
+      arith,
+      (tracked r log nodes es joined each o managed some).stands k lt,
+      never_freed r log nodes es joined each o managed some k,
+    )),
+  )
+
+  -- and there
   pub stands_told : (place : ℕ) → place < r.localities → its_place.place ≡ place → m.stands place ≡ 1
   stands_told place lt at = omega (
     arith,

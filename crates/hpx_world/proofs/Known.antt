@@ -10,6 +10,7 @@ use Rattle.hpx_part.specs.Data.{Entry}
 use Rattle.hpx_part.specs.Shows.{Shows}
 use Rattle.hpx_steps.specs.Rest.{IsPaid, AreInOrder, view, IsTidy, MovesBegan, ArePlaced}
 use Rattle.hpx_steps.specs.Flows.{IsFlowing}
+use Rattle.hpx_steps.specs.Homes.{HasHomes}
 use Rattle.hpx_steps.specs.Items.{weigh}
 use Rattle.hpx_steps.specs.Sound.{brought, moved_by}
 use Rattle.hpx_steps.specs.Turn.{at_rest}
@@ -37,6 +38,7 @@ pub record IsShown (r : Rules) (log : ℕ) (es : List Entry) (k : ℕ) (t : Tabl
   pub begun : MovesBegan r t (part k es)
   pub placed : ArePlaced r t (part k es)
   pub flowing : IsFlowing r (at_rest t) (part k es)
+  pub homes : HasHomes r (at_rest t) (part k es)
   pub bare : AllByRecursion (λ (a : Arrival). a.object.log ≡ None) t.came
   pub arrived : (a : Arrival) → weigh (brought a) (at_rest t) ≤ weigh (moved_by a) (at_rest t)
   pub covered : (o : Id) → held_here t o + owed_here t o ≤ sum_by (worth o) ((replayed r es).places k).tokens

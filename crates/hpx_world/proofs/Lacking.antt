@@ -8,7 +8,7 @@ use Rattle.std.proofs.lemmas.List.Sums.{sum_by-cons, sum_by-append}
 use Rattle.std.proofs.Math.Pow.{pow_pos}
 use Rattle.hpx_value.specs.Hands.{id_at}
 use Rattle.hpx_value.specs.Ids.{bare, same_object}
-use Rattle.hpx_journal.specs.Data.{Id}
+use Rattle.hpx_journal.specs.Data.{Id, Parcel, Return, Ask, Give, Arrived}
 use Rattle.hpx_journal.specs.Entries.{Rules}
 use Rattle.hpx_journal.specs.Laws.{ask_tokens}
 use Rattle.hpx_journal.specs.Local.{is_given}
@@ -21,11 +21,16 @@ use Rattle.hpx_journal.proofs.Start.{joined_asked}
 use Rattle.hpx_part.specs.Data.{Entry, Standing, Token}
 use Rattle.hpx_part.proofs.Keyed.{counts_of, counts_true}
 use Rattle.hpx_tables.specs.Kept.{credit_owed, owed_worth}
-use Rattle.hpx_steps.specs.Rest.{Lacks, IsPaused}
+use Rattle.hpx_agas.specs.declared.record.Waiting.{Waiting}
+use Rattle.hpx_steps.specs.Rest.{Lacks, IsPaused, IsTidy}
+use Rattle.hpx_steps.specs.Sound.{IsGranted, IsStray, IsWaitingFor}
+use Rattle.hpx_steps.proofs.Sums.{messages_sum}
+use Rattle.hpx_tables.specs.declared.kept.Outgoing.{Outgoing}
 use Rattle.hpx_tables.specs.Pending.{Waits, own_ids, ids_named, is_asked, asking_of}
 use Rattle.hpx_tables.specs.Tables.{Tables, messages}
 use Rattle.hpx_node.proofs.Numbers.{owed_shown}
-use Rattle.hpx_world.proofs.Shown.{IsCalm, IsShown, AreShown}
+use Rattle.hpx_world.proofs.Known.{IsJoined, IsShown, AreShown}
+use Rattle.hpx_world.proofs.Rowed.{none_sum}
 
 -- ---- one commit
 
@@ -98,14 +103,49 @@ owed_few o (k ∷ ks) =
     some true log = omega (arith, pow_pos log)
     some false log = omega arith
 
-module _ (r : Rules) (log : ℕ) (es : List Entry) (calm : IsCalm r es) (each : AreShown r log es) where
-  -- nothing is owed where there is no message
-  pub none_owed : (k : ℕ) (t : Tables) (s : IsShown r log es k t) → messages t ≡ [] → (o : Id) → count_by (is_owed o) ((replayed r es).places k).tokens ≡ 0
-  none_owed k t s none o = omega (
+-- ---- what waits, is to leave or is stray owes nothing
+
+waits_owes : (o : Id) (k n : ℕ) (p : Parcel) → IsWaitingFor k n p → credit_owed o p ≡ 0
+waits_owes o k n (Return id) h = absurd h
+waits_owes o k n (Ask id asker entry) h = absurd h
+waits_owes o k n (Give id entry) h = absurd h
+waits_owes o k n (Arrived id place) h = absurd h
+waits_owes o k n _ h = refl
+
+leaves_owes : (o : Id) (k : ℕ) (objects : List Standing) (p : Parcel) → IsGranted k objects p → credit_owed o p ≡ 0
+leaves_owes o k objects (Return id) h = absurd h
+leaves_owes o k objects (Ask id asker entry) h = absurd h
+leaves_owes o k objects (Give id entry) h = absurd h
+leaves_owes o k objects (Arrived id place) h = absurd h
+leaves_owes o k objects _ h = refl
+
+stray_owes : (o : Id) (p : Parcel) → IsStray p → credit_owed o p ≡ 0
+stray_owes o (Return id) h = absurd h
+stray_owes o (Ask id asker entry) h = absurd h
+stray_owes o (Give id entry) h = absurd h
+stray_owes o (Arrived id place) h = absurd h
+stray_owes o _ h = refl
+
+-- so nothing does where no message goes
+owes_none : (t : Tables) → IsTidy t [] → t.desk ≡ [] → t.outgoing ≡ [] → (o : Id) → sum_by (credit_owed o) (messages t) ≡ 0
+owes_none t tidy desk outgoing o = omega (
+  arith,
+  messages_sum (credit_owed o) t,
+  ap (sum_by (credit_owed o)) desk,
+  ap (sum_by (λ (x : Outgoing). credit_owed o x.parcel)) outgoing,
+  none_sum (λ (w : Waiting Parcel). IsWaitingFor t.here w.number w.item) (λ (w : Waiting Parcel). credit_owed o w.item) t.queued (λ w h. waits_owes o t.here w.number w.item h) tidy.queued,
+  none_sum (IsGranted t.here t.objects) (credit_owed o) t.leaving (leaves_owes o t.here t.objects) tidy.leaving,
+  none_sum IsStray (credit_owed o) t.stray (stray_owes o) tidy.stray,
+)
+
+module _ (r : Rules) (log : ℕ) (es : List Entry) (joined : IsJoined r es) (each : AreShown r log es) where
+  -- nothing is owed where no message goes
+  pub none_owed : (k : ℕ) (t : Tables) (s : IsShown r log es k t) → t.desk ≡ [] → t.outgoing ≡ [] → (o : Id) → count_by (is_owed o) ((replayed r es).places k).tokens ≡ 0
+  none_owed k t s desk outgoing o = omega (
     arith,
     owed_few o ((replayed r es).places k).tokens,
     owed_shown t ((replayed r es).places k) o s.tidy s.shows,
-    ap (sum_by (credit_owed o)) none,
+    owes_none t s.tidy desk outgoing o,
   )
 
   module _ (road : (replayed r es).road ≡ []) (silent : (o : Id) (k : ℕ) → k < r.localities → count_by (is_owed o) ((replayed r es).places k).tokens ≡ 0)
@@ -113,7 +153,7 @@ module _ (r : Rules) (log : ℕ) (es : List Entry) (calm : IsCalm r es) (each : 
     wanting : IsWanting t.pending → ⊥
     wanting x =
         let more = s.shows.credit.asking x.object in
-        let few = joined_asked r calm.grammar es [] (subst (IsJoin r) (sym (append-nil es)) calm.join) x.object x.managed in
+        let few = joined_asked r joined.grammar es [] (subst (IsJoin r) (sym (append-nil es)) joined.join) x.object x.managed in
         omega (
           arith,
           few,

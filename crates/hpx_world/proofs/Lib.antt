@@ -26,12 +26,9 @@ pub mod Turned
 pub mod Found
 pub mod Audited
 pub mod Ordered
-pub mod Shown
 pub mod Waited
-pub mod ActsRight
 pub mod Strange
 pub mod Lacking
-pub mod Resting
 pub mod Settled
 pub mod AtHome
 pub mod Tabled
@@ -58,3 +55,7 @@ pub mod Unnamed
 pub mod Freeing
 pub mod Dying
 pub mod Unstrange
+pub mod Cleared
+pub mod Stranded
+pub mod Queued
+pub mod Strays

@@ -73,6 +73,18 @@ target_credited r w act h managed = each act.ids refl h
         let e : target_of act ≡ id = ap (λ (xs : List Id). target_of (record act { ids = xs })) is in
         subst (λ o. 1 ≤ credit_sum r o w) (sym e) (h.0 (subst (λ (o : Id). 16 ≤ o.kind) e managed))
 
+-- and where a target is at home
+pub target_near : (n : ℕ) (act : Act) → 1 ≤ n → AllByRecursion (λ o. o.home < n) act.ids → (target_of act).home < n
+target_near n act some h = each act.ids refl h
+  where
+    each : (ids : List Id) → act.ids ≡ ids → AllByRecursion (λ (o : Id). o.home < n) ids → (target_of act).home < n
+    each [] is h =
+        let e : target_of act ≡ session = ap (λ (xs : List Id). target_of (record act { ids = xs })) is in
+        omega (arith, some, ap (λ (o : Id). o.home) e)
+    each (id ∷ ids) is h =
+        let e : target_of act ≡ id = ap (λ (xs : List Id). target_of (record act { ids = xs })) is in
+        subst (λ (o : Id). o.home < n) (sym e) h.0
+
 module _ (r : Rules) (es : List Entry) (joined : IsJoined r es) where
   pub lawful : IsLegal r es
   lawful = joined_legal r joined.grammar es joined.join
@@ -80,10 +92,19 @@ module _ (r : Rules) (es : List Entry) (joined : IsJoined r es) where
   abbrev Met : Act → Type 0
   Met = IsActMet r (replayed r es)
 
+  -- credit of its target is out, if that is managed
+  pub met_recorded : (act : Act) → Met (bare_act act) → 16 ≤ (target_of act).kind → 1 ≤ recorded_in (target_of act) (replayed r es)
+  met_recorded act met managed = subst (λ y. 1 ≤ recorded_in y (replayed r es)) (target-bare act) (omega (
+    arith,
+    target_credited r (replayed r es) (bare_act act) met.credited (subst (λ (y : Id). 16 ≤ y.kind) (sym (target-bare act)) managed),
+    (legal_whole r es lawful).ledger (target_of (bare_act act)),
+  ))
+
   stand : (o : Id) → IsRootIfSmall r.localities o → o.kind < 16 → StandsAtHome r.localities (replayed r es) o
   stand o h small = root_stands r es lawful o joined.some (h small)
 
-  waiting : (k : ℕ) → k < r.localities → AllByRecursion Met ((replayed r es).places k).waiting
+  -- at a locality
+  pub waiting : (k : ℕ) → k < r.localities → AllByRecursion Met ((replayed r es).places k).waiting
   waiting k lt = all_met r (replayed r es) stand ((replayed r es).places k).waiting
       ((each_origin r (replayed r es) (legal_whole r es lawful)).waiting k lt)
       ((all_near r joined.grammar joined.laws joined.some es joined.join).acts.waiting k lt)
@@ -121,10 +142,10 @@ module _ (r : Rules) (es : List Entry) (joined : IsJoined r es) where
         (all_parts Met (map bare_act t.accepted) (flat_map parcel_acts (messages t))
         (agree_from Met ((replayed r es).places k).waiting _ s.shows.acts.waiting (waiting k s.lt) [] _ refl)).1
 
-    abbrev QueuedWell : Waiting Parcel → Type 0
+    abbrev pub QueuedWell : Waiting Parcel → Type 0
     QueuedWell w = IsWaitingFor k w.number w.item × (IsParcel w.item × AllByRecursion Met (acts_in (Some w.item))) × (1 ≤ grants_of_all r t (part k es) (target_of (act_in w.item)))
 
-    queued_well : AllByRecursion QueuedWell t.queued
+    pub queued_well : AllByRecursion QueuedWell t.queued
     queued_well = each t.queued (subst (λ j. AllByRecursion (λ (w : Waiting Parcel). IsWaitingFor j w.number w.item) t.queued) s.here s.tidy.queued) queued_met s.begun.queued
       where
         queued_met : AllByRecursion (λ (w : Waiting Parcel). IsParcel w.item × AllByRecursion Met (acts_in (Some w.item))) t.queued
@@ -154,26 +175,29 @@ module _ (r : Rules) (es : List Entry) (joined : IsJoined r es) where
     act_met (Rattle.hpx_journal.specs.Data.Arrived id place) n h met = absurd h
     act_met (Rattle.hpx_journal.specs.Data.Free id) n h met = absurd h
 
+    -- which is of here, and of which credit is out
+    pub queued_there : (w : Waiting Parcel) → QueuedWell w → (16 ≤ (target_of (act_in w.item)).kind) × (1 ≤ recorded_in (target_of (act_in w.item)) (replayed r es))
+    queued_there w h =
+        let act = act_in w.item in
+        let managed : 16 ≤ (target_of act).kind = elim (cases_lt (target_of act).kind 16) [
+          | inl small ↦ absurd (omega (arith, h.2, root_grants r log es joined.grammar lawful k t s (target_of act) small))
+          | inr large ↦ large
+        ] in
+        (managed, met_recorded act (act_met w.item w.number h.0 h.1.1) managed)
+
+    pub queued_home : (w : Waiting Parcel) → QueuedWell w → (target_of (act_in w.item)).home ≡ k
+    queued_home w h = (acts_parcel r log es joined.grammar lawful k t s w.item w.number h.0 h.1.0).0
+
     module _ (o : Id) (home : o.home ≡ k) (some : 1 ≤ recorded_in o (replayed r es)) where
       held_one : (w : Waiting Parcel) → QueuedWell w → w.number ≡ o.number → 1 ≤ credit_in o (ids_held w.item)
       held_one w h number =
           let act = act_in w.item in
           let x = acts_parcel r log es joined.grammar lawful k t s w.item w.number h.0 h.1.0 in
-          let met = act_met w.item w.number h.0 h.1.1 in
-          let managed : 16 ≤ (target_of act).kind = elim (cases_lt (target_of act).kind 16) [
-            | inl small ↦ absurd (omega (arith, h.2, root_grants r log es joined.grammar lawful k t s (target_of act) small))
-            | inr large ↦ large
-          ] in
-          let there : 1 ≤ recorded_in (bare (target_of act)) (replayed r es) =
-          subst (λ y. 1 ≤ recorded_in y (replayed r es)) (target-bare act) (omega (
-            arith,
-            target_credited r (replayed r es) (bare_act act) met.credited (subst (λ (y : Id). 16 ≤ y.kind) (sym (target-bare act)) managed),
-            (legal_whole r es lawful).ledger (target_of (bare_act act)),
-          )) in
-          let same = same_born r es lawful o (bare (target_of act)) some there (home ∙ sym x.0) (sym number ∙ sym x.1) in
+          let there = queued_there w h in
+          let same = same_born r es lawful o (target_of act) some there.1 (home ∙ sym x.0) (sym number ∙ sym x.1) in
           omega (
             arith,
-            first_credit r log es joined.grammar lawful k t s o act act.ids refl managed x.2 same,
+            first_credit r log es joined.grammar lawful k t s o act act.ids refl there.0 x.2 same,
             ap (credit_in o) x.3,
           )
 

@@ -5,7 +5,6 @@ use Rattle.hpx_value.specs.declared.acts.Acts.{Ghosts}
 use Rattle.hpx_parcel.specs.declared.parcel.Why.{Why}
 use Rattle.hpx_journal.specs.Data.{Id}
 use Rattle.hpx_journal.specs.Entries.{Rules}
-use Rattle.hpx_journal.specs.Natives.{NothingMoves}
 use Rattle.hpx_journal.specs.Weights.{HasRoom}
 use Rattle.hpx_world.specs.declared.turns.WorldFault.{WorldFault}
 use Rattle.hpx_world.specs.declared.turns.WorldFault.TheVariants as faults
@@ -16,7 +15,7 @@ use Rattle.hpx_world.specs.Stages.{Stage, Outside}
 use Rattle.std.specs.Result.{IsErrAnd}
 use Rattle.hpx_value.specs.declared.acts.Done.{Done}
 use Rattle.hpx_world.specs.Steps.{DidHandOut}
-use Rattle.hpx_world.specs.Refusals.{Stays, StaysAll, IsFull, Refused, RefusedWork, CanCome, CanComeOfSteps}
+use Rattle.hpx_world.specs.Refusals.{Stays, StaysAll, IsFull, Refused, RefusedWork, CanCome}
 use Rattle.hpx_world.specs.Turns.{HoldsBadFrame, HoldsStrangeFrame, HoldsRightFrame, IsStrangeMail, HasToTend, HasToFire, HasToSend, HasJob}
 use Rattle.hpx_world.proofs.Refused.{strange_held_same, right_held_same, strange_mail_same, to_tend_same, to_fire_same, job_same, to_send_same}
 
@@ -163,8 +162,8 @@ finish_refused {A} {g} done k x y z room out (faults.OutOfMemory u) h =
     (room, subst (λ (s : Stage). HasRoom s.entries) (sym same) h.0, subst (DidHandOut done.localities done.job k x) (sym same) out)
 finish_refused {A} {g} done k x y z room out _ h = absurd h.1
 
--- steps that end though the world is not quiet: not where nothing moves
+-- steps do not end where the world is not quiet, if that cannot be
 pub ends_early : {A : Type 0} {g : Ghosts A} {P Q : Type 0} (r : Result Unit (WorldFault A g)) (rules : Rules) (sent taken : ℕ)
-    → IfErr r (λ e. (e ≡ faults.EarlyEnd sent taken) × P × Q) → sent ≡ taken → (NothingMoves rules → P → Q → ⊥) → IfErr r (CanComeOfSteps rules)
-ends_early (Ok x) rules sent taken h same never = tt
-ends_early (Err e) rules sent taken h same never = subst (CanComeOfSteps rules) (sym h.0) (same, λ still. never still h.1 h.2)
+    → IfErr r (λ e. (e ≡ faults.EarlyEnd sent taken) × P × Q) → (P → Q → ⊥) → IfErr r (CanCome rules)
+ends_early (Ok x) rules sent taken h never = tt
+ends_early (Err e) rules sent taken h never = absurd (never h.1 h.2)

@@ -26,6 +26,7 @@ use Rattle.hpx_steps.specs.Limits.{IsWithin}
 use Rattle.hpx_tables.specs.Tables.{Tables}
 use Rattle.hpx_world.specs.Sound.{Meaning, StandsAt, IsSound}
 use Rattle.hpx_steps.specs.Flows.{IsFlowing}
+use Rattle.hpx_steps.specs.Homes.{HasHomes}
 
 -- ---- the other nodes
 
@@ -66,6 +67,7 @@ other_stands r s k events es es' grows away h =
       begun = subst (HasBegun r s) (sym same) h.begun;
       placed = subst (IsPlaced r s) (sym same) h.placed;
       flowing = subst (IsFlowing r s) (sym same) h.flowing;
+      homes = subst (HasHomes r s) (sym same) h.homes;
       arrived = h.arrived;
       numbers = record {
         born = omega (arith, h.numbers.born, more);

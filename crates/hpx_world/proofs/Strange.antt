@@ -8,7 +8,6 @@ use Rattle.hpx_value.specs.declared.profile.Profile.{Profile}
 use Rattle.hpx_journal.specs.Data.{Id, Parcel, Apply, Return, Ask, Give, Cached, Move, Go, Shipped, Arrived, Free}
 use Rattle.hpx_journal.specs.Entries.{Rules, Frame}
 use Rattle.hpx_journal.specs.Laws.{IsOnRoad, KeepsActLaws}
-use Rattle.hpx_journal.specs.Natives.{NothingMoves}
 use Rattle.hpx_journal.specs.Whole.{IsCarried, part, replayed}
 use Rattle.hpx_journal.proofs.Grow.{run_road}
 use Rattle.hpx_journal.proofs.Start.{first}
@@ -17,6 +16,7 @@ use Rattle.hpx_part.proofs.Keyed.{slice_get_less}
 use Rattle.hpx_ports.specs.declared.fabric.Wire.{Wire}
 use Rattle.hpx_steps.specs.Frames.{IsForHere, MayGoTo}
 use Rattle.hpx_steps.specs.Flows.{IsFlowing}
+use Rattle.hpx_steps.specs.Homes.{HasHomes}
 use Rattle.hpx_steps.specs.Rest.{IsPaid, AreInOrder, ArePlaced, rules_of, MovesBegan}
 use Rattle.hpx_steps.specs.Turn.{at_rest}
 use Rattle.hpx_tables.specs.Rules.{broken}
@@ -37,16 +37,10 @@ use Rattle.hpx_world.proofs.FromOthers.{IsSentWell, road_well}
 use Rattle.hpx_world.proofs.Known.{IsJoined, IsShown, AreShown}
 use Rattle.hpx_world.proofs.Rested.{shown_at}
 use Rattle.hpx_world.proofs.Roads.{legal_spelled}
-use Rattle.hpx_world.proofs.Shown.{IsCalm}
 use Rattle.hpx_world.proofs.Sound.{get_some, told_all, sound_joins, sound_legal, spells_well}
 use Rattle.hpx_world.proofs.Turned.{AreLawful}
 use Rattle.hpx_world.proofs.Unstrange.{desk_frees, road_frees}
 use Rattle.hpx_world.proofs.Waited.{awaited, road_given, desk_given}
-
--- the outcomes keep the laws of actions, and none sends a MOVE, at n localities
-pub record AreStill (act_of : Meaning) (n : ℕ) (profile : Profile) : Type 0 where
-  pub laws : AreLawful act_of
-  pub still : NothingMoves (rules_of act_of n profile)
 
 -- lawful outcomes keep the laws of a journal
 pub lawful_now : (act_of : Meaning) (profile : Profile) (nodes : List Tables) (es : List Entry) → IsSound act_of profile nodes es → AreLawful act_of
@@ -107,6 +101,7 @@ module _ (act_of : Meaning) (profile : Profile) (nodes : List Tables) (es : List
         begun = subst (λ j. MovesBegan r t (part j es)) x.here told.begun;
         placed = subst (λ j. ArePlaced r t (part j es)) x.here told.placed;
         flowing = subst (λ j. IsFlowing r (at_rest t) (part j es)) x.here told.flowing;
+        homes = subst (λ j. HasHomes r (at_rest t) (part j es)) x.here told.homes;
         bare = told.bare;
         arrived = told.arrived;
         covered = λ o. omega (
@@ -173,17 +168,11 @@ module _ (act_of : Meaning) (profile : Profile) (nodes : List Tables) (es : List
   pub strange_mail : (k rule : ℕ) (object : Id) (kept : ℕ) → IsStrangeMail nodes k rule object kept → ⊥
   strange_mail k rule object kept h = let mail = h.2.1 in not_both (broken h.0 mail.0) rule object kept (mail_unstrange k h.0 h.1 mail.0 mail.1 mail.2) mail.3
 
-  -- ---- where nothing moves
-
-  module _ (still : NothingMoves r) where
-    pub calm : IsCalm r es
-    calm = record { some = joined.some; grammar = joined.grammar; laws = joined.laws; still = still; join = joined.join }
-
 -- ---- after turns under the same rules
 
 module _ (act_of : Meaning) (profile : Profile) (nodes : List Tables) (es : List Entry) (sound : IsSound act_of profile nodes es)
     (n : ℕ) (p : Profile) (count : length nodes ≡ n) (same : profile ≡ p) (laws : AreLawful act_of) where
-  carrying_now : (h : Option Frame) (fl : Option (List Frame)) (tr : Option (List Wire)) → IsCarrying (rules_of act_of n p) h fl tr es
+  pub carrying_now : (h : Option Frame) (fl : Option (List Frame)) (tr : Option (List Wire)) → IsCarrying (rules_of act_of n p) h fl tr es
       → IsCarrying (rules_of act_of (length nodes) profile) h fl tr es
   carrying_now h fl tr c =
       subst (λ m. IsCarrying (rules_of act_of m profile) h fl tr es) (sym count)

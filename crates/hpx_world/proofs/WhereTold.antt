@@ -29,6 +29,7 @@ use Rattle.hpx_world.specs.declared.audit.AuditLine.{AuditLine}
 use Rattle.hpx_world.proofs.AtPlace.{stands_told}
 use Rattle.hpx_world.proofs.Audited.{all_each, all_flat, all_map, count_in_records}
 use Rattle.hpx_world.proofs.Begun.{managed_here}
+use Rattle.hpx_world.proofs.Cleared.{IsCleared, passive_cleared}
 use Rattle.hpx_world.proofs.Counted.{at_is}
 use Rattle.hpx_world.proofs.Counts.{sent_all, taken_all}
 use Rattle.hpx_world.proofs.Found.{rises_found}
@@ -50,8 +51,8 @@ module _ (act_of : Meaning) (profile : Profile) (nodes : List Tables) (es : List
   no_road = sym (run_road r (first r) es)
       ∙ legal_road_empty r es legal (sym (taken_all act_of profile nodes es sound carried) ∙ (quiet.taken ∙ sent_all act_of profile nodes es sound carried))
 
-  passive : (k : ℕ) (t : Tables) → slice_get nodes k ≡ Some t → IsPassive t
-  passive k t at = all_at IsPassive nodes k t quiet.passive at
+  cleared : (k : ℕ) (t : Tables) → slice_get nodes k ≡ Some t → IsCleared t
+  cleared k t at = passive_cleared t (all_at IsPassive nodes k t quiet.passive at)
 
   -- a live record
   module _ (k : ℕ) (t : Tables) (at : slice_get nodes k ≡ Some t) (i : ℕ) (x : Record) (there : slice_get t.records i ≡ Some x) where
@@ -104,7 +105,7 @@ module _ (act_of : Meaning) (profile : Profile) (nodes : List Tables) (es : List
     stands_one =
         let z = get_some nodes x.place near in
         let there = is_shown act_of profile nodes es sound laws carried x.place z.0 z.1 in
-        let one = stands_told r profile.credit_log nodes es (joined act_of profile nodes es sound laws carried) (are_nodes act_of profile nodes es sound laws carried) no_road passive
+        let one = stands_told r profile.credit_log nodes es (joined act_of profile nodes es sound laws carried) (are_nodes act_of profile nodes es sound laws carried) no_road cleared
         x.gid managed some x.place near same in
         record {
           below = near;

@@ -34,7 +34,7 @@ if_less true n = omega arith
 if_less false n = omega arith
 
 -- what is not written at all is not written at k
-part_none : (f : Event → ℕ) (k : ℕ) (es : List Entry) → all_count f es ≡ 0 → all_count f (part k es) ≡ 0
+pub part_none : (f : Event → ℕ) (k : ℕ) (es : List Entry) → all_count f es ≡ 0 → all_count f (part k es) ≡ 0
 part_none f k es none = omega (
   arith,
   none,

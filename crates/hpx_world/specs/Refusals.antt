@@ -3,7 +3,6 @@ use Rattle.std.specs.Prelude.{ℕ, ◌≡◌, ◌≢◌, ◌≤◌, ◌<◌, ◌
 use Rattle.hpx_value.specs.declared.acts.Acts.{Ghosts}
 use Rattle.hpx_value.specs.declared.acts.Done.{Done}
 use Rattle.hpx_journal.specs.Entries.{Rules}
-use Rattle.hpx_journal.specs.Natives.{NothingMoves}
 use Rattle.hpx_journal.specs.Weights.{HasRoom, total_weight}
 use Rattle.hpx_ports.specs.Faults.{Rose}
 use Rattle.hpx_world.specs.declared.turns.WorldFault.{WorldFault}
@@ -200,10 +199,3 @@ CanCome r (faults.BadFrame to place why) = ⊥
 CanCome r (faults.Strange to rule object kept) = ⊥
 CanCome r (faults.EarlyEnd sent taken) = ⊥
 CanCome r _ = Unit {0}
-
--- the same of steps: where something moves, they may end where the world is not quiet though all frames came
-abbrev pub CanComeOfSteps : {A : Type 0} {g : Ghosts A} → Rules → WorldFault A g → Type 0
-CanComeOfSteps r (faults.BadFrame to place why) = ⊥
-CanComeOfSteps r (faults.Strange to rule object kept) = ⊥
-CanComeOfSteps r (faults.EarlyEnd sent taken) = (sent ≡ taken) × (NothingMoves r → ⊥)
-CanComeOfSteps r _ = Unit {0}

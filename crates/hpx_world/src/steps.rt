@@ -8,7 +8,7 @@ ghost use Rattle.hpx_world.specs.Quiet.{IsQuiet, IsStuck, SendsNothing, NoneRuns
 ghost use Rattle.hpx_node.specs.Handled.{HasNothingToTend};
 ghost use Rattle.hpx_world.specs.Stages.{stage};
 ghost use Rattle.hpx_world.specs.Steps.{IsUnfed, AtFirst, DidWork, DidStep, IsIdle, GoesTo, NoneFires, NoneClears, NonePumps};
-ghost use Rattle.hpx_world.specs.Refusals.{RefusedWork, RefusedStep, RefusedDrain, CountsFaults, CanCome, CanComeOfSteps, HandsNoJob};
+ghost use Rattle.hpx_world.specs.Refusals.{RefusedWork, RefusedStep, RefusedDrain, CountsFaults, CanCome, HandsNoJob};
 ghost use Rattle.hpx_world.specs.Turns.{DidDesk, DidPump};
 ghost use Rattle.hpx_world.specs.declared.turns.Turned.TheVariants.{Moved};
 
@@ -218,7 +218,7 @@ impl<A: Acts + Copy> World<A> {
             IsCarrying r self.old.hand (F.flight fabric.old) (F.trace fabric.old) self.old.journal.entries
             → IsCarrying r self.new.hand (F.flight fabric.new) (F.trace fabric.new) self.new.journal.entries }
         ensures never { let r = rules_in A.act_of self.old in
-            IsCarrying r self.old.hand (F.flight fabric.old) (F.trace fabric.old) self.old.journal.entries → IfErr result (CanComeOfSteps r) }
+            IsCarrying r self.old.hand (F.flight fabric.old) (F.trace fabric.old) self.old.journal.entries → IfErr result (CanCome r) }
     {
         while self.step(alloc, fabric)? {}
         self.standing();

@@ -1,11 +1,13 @@
 //! What is done for objects that move, behind messages: they leave, and what waited for them goes on.
-ghost use Rattle.std.specs.Prelude.{◌≡◌, ◌≤◌, List, true, false, Some, Ok, OnErr, IfSome, IfNone, length, slice_get, take};
+ghost use Rattle.std.specs.Prelude.{◌≡◌, ◌≤◌, List, Option, option_map, true, false, Some, Ok, OnErr, IfSome, IfNone, length, slice_get, take};
 ghost use Rattle.std.specs.List.{list_any};
+ghost use Rattle.hpx_value.specs.Ids.{bare};
+ghost use Rattle.hpx_journal.specs.Data.{Id};
 ghost use Rattle.hpx_journal.specs.Local.{acts_on};
 ghost use Rattle.hpx_journal.specs.Weights.{HasRoom};
 ghost use Rattle.hpx_part.specs.Data.{Entry};
 ghost use Rattle.hpx_steps.specs.Limits.{AddsATurn};
-ghost use Rattle.hpx_steps.specs.Rest.{Stands};
+ghost use Rattle.hpx_steps.specs.Rest.{Stands, StandsBut};
 ghost use Rattle.hpx_node.specs.Changes.{OnlySpare};
 ghost use Rattle.hpx_node.specs.Behind.{is_done_with, may_leave, landed_in, is_still, releases, goes_on, Departs};
 
@@ -147,7 +149,7 @@ impl<A: Acts + Copy> Node<A> {
 
     /// What waits for an object goes its way, the oldest first, until the object moves. It takes no memory.
     fn release(&mut self, o: Gid)
-        requires stands { (entries : List Entry) × Stands A.act_of self.old.tables entries }
+        requires stands { (landed : Option Id) × (entries : List Entry) × StandsBut landed A.act_of self.old.tables entries }
         requires spare { length self.old.tables.queued ≤ self.old.spare }
         ensures { self.new.tables ≡ releases (length self.old.tables.queued) o self.old.tables }
     {
@@ -168,11 +170,13 @@ impl<A: Acts + Copy> Node<A> {
 
     /// What waited for an object that landed, if one did, goes on. It takes no memory.
     pub(crate) fn go_on(&mut self, landed: &Option<Gid>)
-        requires stands { (entries : List Entry) × Stands A.act_of self.old.tables entries }
+        requires stands { (entries : List Entry) × StandsBut (option_map bare landed.now) A.act_of self.old.tables entries }
         requires spare { IfSome landed.now (λ o. length self.old.tables.queued ≤ self.old.spare) }
-        ensures { self.new.tables ≡ goes_on landed.now self.old.tables }
+        ensures goes { self.new.tables ≡ goes_on landed.now self.old.tables }
+        ensures stands { (entries : List Entry) → StandsBut (option_map bare landed.now) A.act_of self.old.tables entries → Stands A.act_of self.new.tables entries }
     {
         if let Some(o) = landed {
+            let _live = self.number();
             self.release(*o);
         }
     }

@@ -32,7 +32,7 @@ returns-clause-places g c = (c.answer-answered.ensures.count ∙ c.in-Ok.ensures
 pub returns-clause-lawful : goal.returns-clause-lawful
 returns-clause-lawful g c =
     lawful_of c.answer-answered.new.world _ _ c.law.ensures.within c.law.ensures.promises c.law.ensures.audit
-    c.law.ensures.at_home c.law.ensures.stand c.answer-answered.ensures.carrying
+    c.law.ensures.stand c.answer-answered.ensures.carrying
 
 pub returns-clause-ended : goal.returns-clause-ended
 returns-clause-ended g c =

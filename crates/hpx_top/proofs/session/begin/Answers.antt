@@ -1,6 +1,5 @@
-use Rattle.std.proofs.Common.{length}
 use Rattle.hpx_top.specs.Session.{rules}
-use Rattle.hpx_top.proofs.FeedLemmas.{of_three, neither, still}
+use Rattle.hpx_top.proofs.FeedLemmas.{of_three, neither}
 use Rattle.hpx_top.proofs.WorldFaults.{no_bad, no_strange, no_early}
 use Rattle.hpx_top.proofs.session.begin.Goals as goal
 

@@ -116,7 +116,7 @@ pub returns-in_err-serve_text-in-Ok-Line-clause-short : goal.returns-in_err-serv
 returns-in_err-serve_text-in-Ok-Line-clause-short g c = λ h all before count s said tells.
     let takes = rw c.in-Ok-Line.field-0-is at c.in-Ok-Line.ensures.ok in
     let is = err_of c.from_residual-in_err-serve_text-in-Ok-Line.result c.in_err-serve_text-in-Ok-Line.field-0.0 OutOfMemory c.from_residual-in_err-serve_text-in-Ok-Line.ensures.1 h in
-    let ended = subst (λ f. IsLineEndedBy f (rules c.args.world.now) c.in-Ok-Line.line c.args.world.now.journal.entries c.serve_text.new.world.journal.entries
+    let ended = subst (λ f. IsLineEndedBy c.args.console f (rules c.args.world.now) c.in-Ok-Line.line c.args.world.now.journal.entries c.serve_text.new.world.journal.entries
     (g.K.Sink.held c.write.new.sink) (g.K.Sink.held c.serve_text.new.sink)) is c.in_err-serve_text-in-Ok-Line.ensures.err in
     cut_line-at count (length c.args.world.now.nodes) c.args.world.now.profile said all before (g.K.Sink.held c.args.sink.now) (g.K.Sink.held c.serve_text.new.sink) c.args.reader.now c.next_line.new.self
     (g.S.Source.left c.args.source.now) (g.S.Source.left c.next_line.new.source) c.args.world.now.journal.entries c.serve_text.new.world.journal.entries

@@ -18,30 +18,30 @@ pub returns-in_err-write-clause-ended : goal.returns-in_err-write-clause-ended
 returns-in_err-write-clause-ended g c =
     let all = all_lines (g.S.Source.left c.args.source.now) in
     λ input said h tells. if_err_from c.from_residual.result c.in_err-write.field-0.0 _ c.from_residual.ensures.1
-    (ended_from said c.in_err-write.field-0.0 input (g.S.Source.left c.args.source.now) c.args.world.now.journal.entries
-    (g.K.Sink.held c.args.sink.now) (g.K.Sink.held c.write.new.sink) (grows (length c.args.world.now.nodes) c.args.world.now.journal.entries said tells) h
+    (ended_from c.args.console said c.in_err-write.field-0.0 input (g.S.Source.left c.args.source.now) c.args.world.now.journal.entries
+    (g.K.Sink.held c.args.sink.now) (g.K.Sink.held c.write.new.sink) (grows c.args.console (length c.args.world.now.nodes) c.args.world.now.journal.entries said tells) h
     (cut_write c.in_err-write.field-0.0 said all _ _ _ c.in_err-write.ensures.cause.0
-    (under_start said all (g.K.Sink.held c.args.sink.now) (g.K.Sink.held c.write.new.sink) c.args.world.now.journal.entries c.requires.empty (of_text c.help.ensures c.in_err-write.ensures.front))))
+    (under_start said all (g.K.Sink.held c.args.sink.now) (g.K.Sink.held c.write.new.sink) c.args.world.now.journal.entries c.requires.empty (of_text c.commands.ensures c.in_err-write.ensures.front))))
 
 pub returns-in_err-write-clause-begun : goal.returns-in_err-write-clause-begun
 returns-in_err-write-clause-begun g c =
     let all = all_lines (g.S.Source.left c.args.source.now) in
     λ input said h tells. begun_from said c.in_err-write.field-0.0 input (g.S.Source.left c.args.source.now) c.args.world.now.journal.entries
-    (g.K.Sink.held c.args.sink.now) (g.K.Sink.held c.write.new.sink) (grows (length c.args.world.now.nodes) c.args.world.now.journal.entries said tells) h
+    (g.K.Sink.held c.args.sink.now) (g.K.Sink.held c.write.new.sink) (grows c.args.console (length c.args.world.now.nodes) c.args.world.now.journal.entries said tells) h
     (cut_write c.in_err-write.field-0.0 said all _ _ _ c.in_err-write.ensures.cause.0
-    (under_start said all (g.K.Sink.held c.args.sink.now) (g.K.Sink.held c.write.new.sink) c.args.world.now.journal.entries c.requires.empty (of_text c.help.ensures c.in_err-write.ensures.front)))
+    (under_start said all (g.K.Sink.held c.args.sink.now) (g.K.Sink.held c.write.new.sink) c.args.world.now.journal.entries c.requires.empty (of_text c.commands.ensures c.in_err-write.ensures.front)))
 
 -- the accumulator was not made
 pub returns-in_err-open-clause-ended : goal.returns-in_err-open-clause-ended
 returns-in_err-open-clause-ended g c =
-    let cut = cut_opening (g.K.Sink.held c.args.sink.now) (g.K.Sink.held c.write.new.sink) _ _ c.requires.empty c.in_err-open.ensures.once (c.in_ok-write.ensures.held ∙ ap (followed (g.K.Sink.held c.args.sink.now)) c.help.ensures) in
+    let cut = cut_opening (g.K.Sink.held c.args.sink.now) (g.K.Sink.held c.write.new.sink) _ _ c.in_err-open.ensures.only c.requires.empty c.in_err-open.ensures.once (c.in_ok-write.ensures.held ∙ ap (followed (g.K.Sink.held c.args.sink.now)) c.commands.ensures) in
     λ input said h tells. if_err_from c.from_residual-in_err-open.result c.in_err-open.field-0.0 _ c.from_residual-in_err-open.ensures.1
     (ended_opening said c.in_err-open.field-0.0 input _ (g.K.Sink.held c.args.sink.now) (g.K.Sink.held c.write.new.sink) c.in_err-open.ensures.other cut)
 
 pub returns-in_err-open-clause-begun : goal.returns-in_err-open-clause-begun
 returns-in_err-open-clause-begun g c =
-    let cut = cut_opening (g.K.Sink.held c.args.sink.now) (g.K.Sink.held c.write.new.sink) _ _ c.requires.empty c.in_err-open.ensures.once (c.in_ok-write.ensures.held ∙ ap (followed (g.K.Sink.held c.args.sink.now)) c.help.ensures) in
-    λ input said h tells. begun_opening said input _ (g.K.Sink.held c.args.sink.now) (g.K.Sink.held c.write.new.sink) (grows (length c.args.world.now.nodes) c.open.new.world.journal.entries said tells) (said_none (length c.args.world.now.nodes) c.open.new.world.journal.entries said tells) cut
+    let cut = cut_opening (g.K.Sink.held c.args.sink.now) (g.K.Sink.held c.write.new.sink) _ _ c.in_err-open.ensures.only c.requires.empty c.in_err-open.ensures.once (c.in_ok-write.ensures.held ∙ ap (followed (g.K.Sink.held c.args.sink.now)) c.commands.ensures) in
+    λ input said h tells. begun_opening said input _ (g.K.Sink.held c.args.sink.now) (g.K.Sink.held c.write.new.sink) (grows c.args.console (length c.args.world.now.nodes) c.open.new.world.journal.entries said tells) (said_none c.args.console (length c.args.world.now.nodes) c.open.new.world.journal.entries said tells) cut
 
 -- nothing was read
 pub returns-in_err-open-clause-reads : goal.returns-in_err-open-clause-reads
@@ -58,7 +58,7 @@ loop-reader-init g c = record {
     count = 0;
     serving = serving_open-at _ (all_lines (g.S.Source.left c.args.source.now)) (g.K.Sink.held c.args.sink.now) (g.K.Sink.held c.write.new.sink)
         c.new-reader.result (g.S.Source.left c.args.source.now) c.args.world.now.journal.entries c.open.new.world.journal.entries
-        (rw c.new-reader.ensures refl) (rw c.new-reader.ensures (omega arith)) c.requires.empty c.in_ok-open.ensures.fed (c.in_ok-write.ensures.held ∙ ap (followed (g.K.Sink.held c.args.sink.now)) c.help.ensures);
+        (rw c.new-reader.ensures refl) (rw c.new-reader.ensures (omega arith)) c.requires.empty c.in_ok-open.ensures.opened (c.in_ok-write.ensures.held ∙ ap (followed (g.K.Sink.held c.args.sink.now)) c.commands.ensures);
     behind_is = behind_start (g.S.Source.left c.args.source.now) c.new-reader.result c.new-reader.ensures;
   };
   reads = read_none (g.S.Source.left c.args.source.now) c.new-reader.result c.new-reader.ensures;
@@ -103,16 +103,16 @@ pub returns-in_err-serve_line-clause-ended : goal.returns-in_err-serve_line-clau
 returns-in_err-serve_line-clause-ended g c =
     let serving = rw (← same_rules c.args.world.now c.loop-reader.world c.loop-reader.invariant.count c.loop-reader.invariant.profile) at c.loop-reader.invariant.handling.serving.0 in
     λ input said h tells.
-    let cut = c.in_err-serve_line.ensures.err _ _ serving said (tells_as (length c.loop-reader.world.nodes) (length c.args.world.now.nodes) c.serve_line.new.world.journal.entries said c.loop-reader.invariant.count tells) in
+    let cut = c.in_err-serve_line.ensures.err _ _ serving said (tells_as c.args.console (length c.loop-reader.world.nodes) (length c.args.world.now.nodes) c.serve_line.new.world.journal.entries said c.loop-reader.invariant.count tells) in
     if_err_from c.from_residual-in_err-serve_line.result c.in_err-serve_line.field-0.0 _ c.from_residual-in_err-serve_line.ensures.1
-    (ended_from said c.in_err-serve_line.field-0.0 input (g.S.Source.left c.args.source.now) _ _ _ (grows (length c.args.world.now.nodes) c.serve_line.new.world.journal.entries said tells) h cut)
+    (ended_from c.args.console said c.in_err-serve_line.field-0.0 input (g.S.Source.left c.args.source.now) _ _ _ (grows c.args.console (length c.args.world.now.nodes) c.serve_line.new.world.journal.entries said tells) h cut)
 
 pub returns-in_err-serve_line-clause-begun : goal.returns-in_err-serve_line-clause-begun
 returns-in_err-serve_line-clause-begun g c =
     let serving = rw (← same_rules c.args.world.now c.loop-reader.world c.loop-reader.invariant.count c.loop-reader.invariant.profile) at c.loop-reader.invariant.handling.serving.0 in
     λ input said h tells.
-    let cut = c.in_err-serve_line.ensures.err _ _ serving said (tells_as (length c.loop-reader.world.nodes) (length c.args.world.now.nodes) c.serve_line.new.world.journal.entries said c.loop-reader.invariant.count tells) in
-    begun_from said c.in_err-serve_line.field-0.0 input (g.S.Source.left c.args.source.now) _ _ _ (grows (length c.args.world.now.nodes) c.serve_line.new.world.journal.entries said tells) h cut
+    let cut = c.in_err-serve_line.ensures.err _ _ serving said (tells_as c.args.console (length c.loop-reader.world.nodes) (length c.args.world.now.nodes) c.serve_line.new.world.journal.entries said c.loop-reader.invariant.count tells) in
+    begun_from said c.in_err-serve_line.field-0.0 input (g.S.Source.left c.args.source.now) _ _ _ (grows c.args.console (length c.args.world.now.nodes) c.serve_line.new.world.journal.entries said tells) h cut
 
 pub returns-in_err-serve_line-clause-input : goal.returns-in_err-serve_line-clause-input
 returns-in_err-serve_line-clause-input g c =
@@ -128,14 +128,14 @@ returns-in_err-serve_line-clause-short g c =
     let serving = rw (← same_rules c.args.world.now c.loop-reader.world c.loop-reader.invariant.count c.loop-reader.invariant.profile) at was.serving in
     λ input said h tells e.
     let is = ap (λ f. Err f) (err_of c.from_residual-in_err-serve_line.result c.in_err-serve_line.field-0.0 OutOfMemory c.from_residual-in_err-serve_line.ensures.1 e) in
-    let cut = c.in_err-serve_line.ensures.short is _ _ was.count serving said (tells_as (length c.loop-reader.world.nodes) (length c.args.world.now.nodes) c.serve_line.new.world.journal.entries said c.loop-reader.invariant.count tells) in
+    let cut = c.in_err-serve_line.ensures.short is _ _ was.count serving said (tells_as c.args.console (length c.loop-reader.world.nodes) (length c.args.world.now.nodes) c.serve_line.new.world.journal.entries said c.loop-reader.invariant.count tells) in
     short_from was.count said input (g.S.Source.left c.args.source.now) _ (g.S.Source.left c.serve_line.new.source) c.serve_line.new.reader
     c.serve_line.new.world.journal.entries (g.K.Sink.held c.args.sink.now) (g.K.Sink.held c.serve_line.new.sink) h cut was.behind_is
     (c.serve_line.ensures.reads _ c.loop-reader.invariant.reads) (c.in_err-serve_line.ensures.out is)
 
 pub returns-in_err-open-clause-short : goal.returns-in_err-open-clause-short
 returns-in_err-open-clause-short g c =
-    let cut = cut_opening (g.K.Sink.held c.args.sink.now) (g.K.Sink.held c.write.new.sink) _ _ c.requires.empty c.in_err-open.ensures.once (c.in_ok-write.ensures.held ∙ ap (followed (g.K.Sink.held c.args.sink.now)) c.help.ensures) in
+    let cut = cut_opening (g.K.Sink.held c.args.sink.now) (g.K.Sink.held c.write.new.sink) _ _ c.in_err-open.ensures.only c.requires.empty c.in_err-open.ensures.once (c.in_ok-write.ensures.held ∙ ap (followed (g.K.Sink.held c.args.sink.now)) c.commands.ensures) in
     λ input said h tells e. short_opening said input (g.S.Source.left c.args.source.now) _ (g.K.Sink.held c.args.sink.now) (g.K.Sink.held c.write.new.sink) h cut
 
 pub returns-in_err-serve_line-clause-read_on : goal.returns-in_err-serve_line-clause-read_on
@@ -182,13 +182,13 @@ pub returns-clause-whole : goal.returns-clause-whole
 returns-clause-whole g c =
     let serving = rw (← same_rules c.args.world.now c.loop-reader.world c.loop-reader.invariant.count c.loop-reader.invariant.profile) at c.loop-reader.invariant.handling.serving.0 in
     λ input said h tells.
-    let over = c.in_ok-serve_line.ensures.over (ap (λ b. Ok b) c.if-branch.false) _ _ serving said (tells_as (length c.loop-reader.world.nodes) (length c.args.world.now.nodes) c.serve_line.new.world.journal.entries said c.loop-reader.invariant.count tells) in
+    let over = c.in_ok-serve_line.ensures.over (ap (λ b. Ok b) c.if-branch.false) _ _ serving said (tells_as c.args.console (length c.loop-reader.world.nodes) (length c.args.world.now.nodes) c.serve_line.new.world.journal.entries said c.loop-reader.invariant.count tells) in
     whole_from said c.serve_line.new.reader.ended input (g.S.Source.left c.args.source.now) _ _ _ h over
 
 pub returns-clause-read_up : goal.returns-clause-read_up
 returns-clause-read_up g c =
     let serving = rw (← same_rules c.args.world.now c.loop-reader.world c.loop-reader.invariant.count c.loop-reader.invariant.profile) at c.loop-reader.invariant.handling.serving.0 in
-    let said = shown_in c.serve_line.new.world.journal.entries in
+    let said = shown_in c.args.console c.serve_line.new.world.journal.entries in
     let over = c.in_ok-serve_line.ensures.over (ap (λ b. Ok b) c.if-branch.false) _ _ serving said (inl refl) in
     λ input h. read_up_from said c.serve_line.new.reader.ended input (g.S.Source.left c.args.source.now) (g.S.Source.left c.serve_line.new.source)
     c.serve_line.new.reader c.serve_line.new.world.journal.entries (g.K.Sink.held c.args.sink.now) (g.K.Sink.held c.serve_line.new.sink) h over
@@ -198,5 +198,5 @@ pub returns-clause-begun : goal.returns-clause-begun
 returns-clause-begun g c =
     let serving = rw (← same_rules c.args.world.now c.loop-reader.world c.loop-reader.invariant.count c.loop-reader.invariant.profile) at c.loop-reader.invariant.handling.serving.0 in
     λ input said h tells.
-    let over = c.in_ok-serve_line.ensures.over (ap (λ b. Ok b) c.if-branch.false) _ _ serving said (tells_as (length c.loop-reader.world.nodes) (length c.args.world.now.nodes) c.serve_line.new.world.journal.entries said c.loop-reader.invariant.count tells) in
-    begun_over said c.serve_line.new.reader.ended input (g.S.Source.left c.args.source.now) _ _ _ (grows (length c.args.world.now.nodes) c.serve_line.new.world.journal.entries said tells) h over
+    let over = c.in_ok-serve_line.ensures.over (ap (λ b. Ok b) c.if-branch.false) _ _ serving said (tells_as c.args.console (length c.loop-reader.world.nodes) (length c.args.world.now.nodes) c.serve_line.new.world.journal.entries said c.loop-reader.invariant.count tells) in
+    begun_over said c.serve_line.new.reader.ended input (g.S.Source.left c.args.source.now) _ _ _ (grows c.args.console (length c.args.world.now.nodes) c.serve_line.new.world.journal.entries said tells) h over

@@ -8,7 +8,7 @@ use Rattle.hpx_top.proofs.session.serve_lines.Given as goal
 abbrev pub invariant-loop-reader : goal.invariant-loop-reader
 invariant-loop-reader g l =
     record {
-      handling : IsHandling (rules l.fn.world) (g.S.Source.left l.fn.source)
+      handling : IsHandling l.fn.console (rules l.fn.world) (g.S.Source.left l.fn.source)
           (lines_left (record { pending = []; read = 0; ended = false }) (g.S.Source.left l.fn.source))
           (g.K.Sink.held l.fn.sink) l.reader (g.S.Source.left l.source) l.world.journal.entries (g.K.Sink.held l.sink);
       reads : HasRead (g.S.Source.left l.fn.source) l.reader (g.S.Source.left l.source);

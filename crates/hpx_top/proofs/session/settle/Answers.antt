@@ -5,8 +5,8 @@ use Rattle.hpx_journal.specs.Whole.{IsCarried}
 use Rattle.hpx_journal.specs.Weights.{HasRoom}
 use Rattle.hpx_top.specs.Session.{rules}
 use Rattle.hpx_top.specs.declared.session.SessionFault.TheVariants.{JournalFull}
-use Rattle.hpx_top.proofs.FeedLemmas.{of_three, neither, still, room_by}
-use Rattle.hpx_top.proofs.WorldFaults.{no_bad_step, no_strange_step, no_early_step, fabric_room, memory_room, full_none}
+use Rattle.hpx_top.proofs.FeedLemmas.{of_three, neither, room_by}
+use Rattle.hpx_top.proofs.WorldFaults.{no_bad, no_strange, no_early, fabric_room, memory_room, full_none}
 use Rattle.hpx_top.proofs.session.settle.Goals as goal
 
 pub returns-in-Err-clause-cause : goal.returns-in-Err-clause-cause
@@ -14,10 +14,10 @@ returns-in-Err-clause-cause g c =
     let w = c.args.world.now in
     let never = c.in-Err.ensures.never c.requires.carrying in
     of_three c.fault_of.result c.fault_of.ensures.other
-    (λ e. no_bad_step (rules w) _ (c.fault_of.ensures.bad_frame e).3 never)
+    (λ e. no_bad (rules w) _ (c.fault_of.ensures.bad_frame e).3 never)
     (λ e. neither
-    (λ s. no_strange_step (rules w) _ s.4 never)
-    (λ s. no_early_step (rules w) _ s.2 (still (length w.nodes) w.profile) never)
+    (λ s. no_strange (rules w) _ s.4 never)
+    (λ s. no_early (rules w) _ s.2 never)
     (c.fault_of.ensures.strange e))
 
 -- want of memory leaves room, by what is looked at for a job that was not run

@@ -1,7 +1,9 @@
 use Rattle.hpx_node.proofs.Common.{IsTidy, Locality, Parcel, Stands, Tables, [], ap, arith, get_or, length, subst, sym, when_ok, ◌∙◌, ◌∷◌, ◌≡◌, ◌≤◌}
 use Rattle.hpx_node.proofs.FewEntries.{popped_tidy}
+use Rattle.hpx_node.proofs.Emptied.{lands_is}
 use Rattle.hpx_node.proofs.Followed.{next_gives}
-use Rattle.hpx_node.proofs.Released.{accepts_queued, made_popped, room_to_go, went_on, went_stands}
+use Rattle.hpx_steps.specs.Rest.{StandsBut}
+use Rattle.hpx_node.proofs.Released.{accepts_queued, made_popped, room_to_go, went_on}
 use Rattle.hpx_node.proofs.Same.{same_too}
 use Rattle.hpx_node.proofs.Spared.{first_there, mail_by, spare_popped}
 use Rattle.hpx_node.proofs.Turned.{are_few, at_rest_tidy, desk_clears, desk_done, desk_follows, desk_next}
@@ -82,10 +84,10 @@ returns g c =
     c.broken.result c.in-Ok.next same first is c.broken.ensures c.in_default.is looked c.in-Ok.ensures c.enter_mail.ensures.accepts c.requires.stands g.met.A.Acts.is_blind (omega (arith, log))
     c.enter_mail.new.book.entries c.follow.new.book.entries c.enter_mail.ensures.writes c.enter_mail.ensures.leaves c.enter_mail.ensures.taken c.enter_mail.ensures.sent
     c.follow.new.self.tables c.follow.ensures.running c.follow.ensures.followed c.follow.ensures.taken c.follow.ensures.sent
-    c.go_on.new.self.tables (c.go_on.ensures ∙ ap (λ o. goes_on o c.follow.new.self.tables) landed) in
+    c.go_on.new.self.tables (c.go_on.ensures.goes ∙ ap (λ o. goes_on o c.follow.new.self.tables) landed) in
     record {
-      stands = went_stands g.A.Acts.act_of c.landed_first-landed.result c.follow.new.self.tables c.go_on.new.self.tables c.follow.new.book.entries c.go_on.ensures done;
-      running = ap (λ (x : Tables). x.running) (went_on c.landed_first-landed.result c.follow.new.self.tables c.go_on.new.self.tables c.go_on.ensures)
+      stands = c.go_on.ensures.stands c.follow.new.book.entries (subst (λ o. StandsBut o g.A.Acts.act_of c.follow.new.self.tables c.follow.new.book.entries) (lands_is c.into_parcel.result c.landed_first-landed.result landed) done);
+      running = ap (λ (x : Tables). x.running) (went_on c.landed_first-landed.result c.follow.new.self.tables c.go_on.new.self.tables c.go_on.ensures.goes)
           ∙ (c.follow.ensures.running ∙ (c.enter_mail.ensures.running ∙ ap (λ (x : Tables). x.running) same.tables));
       turn = adds_steps _ _ _ _ c.reserve_turn.ensures.same.entries c.enter_mail.ensures.few c.enter_mail.ensures.light c.follow.ensures.few c.follow.ensures.light;
       cleared = λ ok. clears;
@@ -103,12 +105,15 @@ go_on-requires-clause-stands g c =
     let first = c.in-Some-pop_front.ensures.items ∙ ap (λ (q : Parcel). q ∷ c.pop_front.new.self.items) (sym c.into_parcel.ensures.parcel) in
     let is = (rw (← c.parcel.ensures.parcel) at c.index.ensures) ∙ ap (λ (x : Locality). get_or x.tables.desk 0 c.parcel.result.now) c.self.view_is in
     let looked = (rw (← c.parcel-2.ensures.parcel) at c.index-2.ensures) ∙ ap (λ (x : Locality). get_or x.tables.desk 0 c.parcel-2.result.now) c.self.view_is in
-    let log = subst (λ (x : Locality). 8 ≤ x.tables.profile.credit_log) c.self.view_is c.self.invariant.3.log_least in (
+    let log = subst (λ (x : Locality). 8 ≤ x.tables.profile.credit_log) c.self.view_is c.self.invariant.3.log_least in
+    let landed = c.landed_first-landed.ensures c.into_parcel.result c.pop_front.new.self.items
+    (first_there c.args.self.now.tables _ c.into_parcel.result c.parcel.result.now c.pop_front.new.self.items c.broken.result same.tables first is c.broken.ensures c.in_default.is) in (
       c.follow.new.book.entries,
-      desk_done g.A.Acts.act_of c.args.self.now.tables _ c.enter_mail.new.self.tables _ _ c.into_parcel.result c.parcel.result.now c.parcel-2.result.now c.pop_front.new.self.items
+      subst (λ o. StandsBut o g.A.Acts.act_of c.follow.new.self.tables c.follow.new.book.entries) (lands_is c.into_parcel.result c.landed_first-landed.result landed)
+          (desk_done g.A.Acts.act_of c.args.self.now.tables _ c.enter_mail.new.self.tables _ _ c.into_parcel.result c.parcel.result.now c.parcel-2.result.now c.pop_front.new.self.items
           c.broken.result c.in-Ok.next same first is c.broken.ensures c.in_default.is looked c.in-Ok.ensures c.enter_mail.ensures.accepts c.requires.stands g.met.A.Acts.is_blind (omega (arith, log))
           c.enter_mail.new.book.entries c.follow.new.book.entries c.enter_mail.ensures.writes c.enter_mail.ensures.leaves c.enter_mail.ensures.taken c.enter_mail.ensures.sent
-          c.follow.new.self.tables c.follow.ensures.running c.follow.ensures.followed c.follow.ensures.taken c.follow.ensures.sent,
+          c.follow.new.self.tables c.follow.ensures.running c.follow.ensures.followed c.follow.ensures.taken c.follow.ensures.sent),
     )
 
 pub go_on-requires-clause-spare : goal.go_on-requires-clause-spare

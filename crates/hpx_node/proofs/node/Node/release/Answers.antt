@@ -29,7 +29,7 @@ pub returns-in_default-into_parcel : goal.returns-in_default-into_parcel
 returns-in_default-into_parcel g c =
     let i = c.loop.invariant in
     let stands = rw (← c.self-in-loop.view_is) at i.stands in
-    elim (waits_act g.A.Acts.act_of c.args.o _ stands.0 (waits c.args.o.number c.in-Some.letter) c.in-Some.ensures.first stands.1) [
+    elim (waits_act g.A.Acts.act_of stands.0 c.args.o _ stands.1 (waits c.args.o.number c.in-Some.letter) c.in-Some.ensures.first stands.2) [
       | inl e ↦ absurd (c.in_default-into_parcel.not-Apply _ (c.into_parcel.ensures.parcel ∙ e))
       | inr e ↦ absurd (c.in_default-into_parcel.not-Move _ (c.into_parcel.ensures.parcel ∙ e))
     ]

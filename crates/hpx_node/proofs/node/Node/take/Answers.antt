@@ -1,6 +1,8 @@
 use Rattle.hpx_node.proofs.Common.{IsTidy, None, Some, Stands, Tables, [], ap, arith, broken_near, near_right, length, parcel_of, parcel_spelled, subst, sym, when_ok, ◌∙◌, ◌≡◌, ◌≤◌}
+use Rattle.hpx_node.proofs.Emptied.{lands_is}
 use Rattle.hpx_node.proofs.Followed.{next_gives}
-use Rattle.hpx_node.proofs.Released.{deals_queued, room_to_go, went_on, went_stands}
+use Rattle.hpx_steps.specs.Rest.{StandsBut}
+use Rattle.hpx_node.proofs.Released.{deals_queued, room_to_go, went_on}
 use Rattle.hpx_node.proofs.Same.{same_too}
 use Rattle.hpx_node.proofs.Turned.{are_few, at_rest_tidy, frame_done, frame_follows, frame_takes}
 use Rattle.hpx_node.proofs.Turns.{adds_none}
@@ -65,10 +67,10 @@ returns g c =
     c.enter_frame.ensures.deals c.requires.stands g.met.A.Acts.is_blind (omega (arith, log)) c.in-Ok-duplicate.bytes c.args.frame.now c.enter_frame.new.book.entries
     c.follow.new.book.entries c.in-Ok-duplicate.ensures spelled c.enter_frame.ensures.writes c.enter_frame.ensures.leaves c.enter_frame.ensures.taken c.enter_frame.ensures.sent
     c.follow.new.self.tables c.follow.ensures.running c.follow.ensures.followed c.follow.ensures.taken c.follow.ensures.sent
-    c.go_on.new.self.tables (c.go_on.ensures ∙ ap (λ o. goes_on o c.follow.new.self.tables) c.landed_in-landed.ensures) in
+    c.go_on.new.self.tables (c.go_on.ensures.goes ∙ ap (λ o. goes_on o c.follow.new.self.tables) c.landed_in-landed.ensures) in
     record {
-      stands = went_stands g.A.Acts.act_of c.landed_in-landed.result c.follow.new.self.tables c.go_on.new.self.tables c.follow.new.book.entries c.go_on.ensures done;
-      running = ap (λ (x : Tables). x.running) (went_on c.landed_in-landed.result c.follow.new.self.tables c.go_on.new.self.tables c.go_on.ensures) ∙ (c.follow.ensures.running ∙ (c.enter_frame.ensures.running ∙ ap (λ (x : Tables). x.running) c.reserve_turn.ensures.same.tables));
+      stands = c.go_on.ensures.stands c.follow.new.book.entries (subst (λ o. StandsBut o g.A.Acts.act_of c.follow.new.self.tables c.follow.new.book.entries) (lands_is c.in-Ok.parcel c.landed_in-landed.result c.landed_in-landed.ensures) done);
+      running = ap (λ (x : Tables). x.running) (went_on c.landed_in-landed.result c.follow.new.self.tables c.go_on.new.self.tables c.go_on.ensures.goes) ∙ (c.follow.ensures.running ∙ (c.enter_frame.ensures.running ∙ ap (λ (x : Tables). x.running) c.reserve_turn.ensures.same.tables));
       turn = adds_steps _ _ _ _ c.reserve_turn.ensures.same.entries c.enter_frame.ensures.few c.enter_frame.ensures.light c.follow.ensures.few c.follow.ensures.light;
       ok = takes;
       err = tt;
@@ -83,11 +85,12 @@ go_on-requires-clause-stands g c =
     let spelled : parcel_of c.args.frame.now ≡ Some c.in-Ok.parcel = rw (c.as_slice.ensures) at c.in-Ok.ensures.read in
     let log = subst (λ (x : Tables). 8 ≤ x.profile.credit_log) c.reserve_turn.ensures.same.tables c.enter_frame.ensures.log in (
       c.follow.new.book.entries,
-      frame_done g.A.Acts.act_of c.args.self.now.tables c.reserve_turn.new.self.tables c.enter_frame.new.self.tables c.args.book.now c.reserve_turn.new.book c.in-Ok.parcel
+      subst (λ o. StandsBut o g.A.Acts.act_of c.follow.new.self.tables c.follow.new.book.entries) (lands_is c.in-Ok.parcel c.landed_in-landed.result c.landed_in-landed.ensures)
+          (frame_done g.A.Acts.act_of c.args.self.now.tables c.reserve_turn.new.self.tables c.enter_frame.new.self.tables c.args.book.now c.reserve_turn.new.book c.in-Ok.parcel
           c.in-Ok-next.next c.reserve_turn.ensures.same (parcel_spelled c.args.frame.now c.in-Ok.parcel spelled).parcel (sym c.broken.ensures ∙ c.in_default.is) c.in-Ok-next.ensures
           c.enter_frame.ensures.deals c.requires.stands g.met.A.Acts.is_blind (omega (arith, log)) c.in-Ok-duplicate.bytes c.args.frame.now c.enter_frame.new.book.entries
           c.follow.new.book.entries c.in-Ok-duplicate.ensures spelled c.enter_frame.ensures.writes c.enter_frame.ensures.leaves c.enter_frame.ensures.taken c.enter_frame.ensures.sent
-          c.follow.new.self.tables c.follow.ensures.running c.follow.ensures.followed c.follow.ensures.taken c.follow.ensures.sent,
+          c.follow.new.self.tables c.follow.ensures.running c.follow.ensures.followed c.follow.ensures.taken c.follow.ensures.sent),
     )
 
 pub go_on-requires-clause-spare : goal.go_on-requires-clause-spare

@@ -1,4 +1,4 @@
-use Rattle.std.proofs.Common.{◌∷◌, Ok, length, sym, ap, ◌∙◌}
+use Rattle.std.proofs.Common.{◌∷◌, Ok, length, ap, ◌∙◌}
 use Rattle.hpx_world.specs.Places.{rules_in}
 use Rattle.hpx_world.specs.Stages.{stage}
 use Rattle.hpx_world.proofs.FirstSteps.{step_fewer, drain_refuses}
@@ -41,10 +41,8 @@ returns-clause-never g c = λ carrying.
     let profile = c.step.ensures.profile ∙ i.profile in
     let carried = carrying_at g.A.Acts.act_of (length c.args.self.now.nodes) (length c.loop.self.nodes) c.args.self.now.profile c.loop.self.profile
     _ _ _ _ _ _ _ _ i.count i.profile c.step.ensures.carrying (i.carrying carrying) in
-    ends_early c.settled.result (rules_in g.A.Acts.act_of c.args.self.now) _ _ c.settled.ensures.early (sym idle.taken)
-    (λ still jobs waits. never_held g.A.Acts.act_of c.step.new.self.profile c.step.new.self.nodes c.step.new.self.journal.entries c.standing.ensures
+    ends_early c.settled.result (rules_in g.A.Acts.act_of c.args.self.now) _ _ c.settled.ensures.early
+    (λ jobs waits. never_held g.A.Acts.act_of c.step.new.self.profile c.step.new.self.nodes c.step.new.self.journal.entries c.standing.ensures
     (length c.args.self.now.nodes) c.args.self.now.profile _ _ _ count profile
-    (record {
-      laws = λ n kind here s a some few h state act. g.met.A.Acts.keeps_laws n kind here s a some few h state act;
-      still = still;
-    }) carried (record { idle = idle.applies; jobs = jobs; waits = waits }))
+    (λ n kind here s a some few h state act. g.met.A.Acts.keeps_laws n kind here s a some few h state act)
+    carried (record { idle = idle.applies; jobs = jobs; waits = waits }))
