@@ -15,13 +15,13 @@ pub told_words : (words told : List (List ℕ)) (o : Option (List (List ℕ))) �
 told_words words told o same e = subst (λ p. IfSome p (λ vs. words ≡ vs)) e same
 
 -- what holds of a run, holds of its world: a setup was asked for
-pub run_in : (world : Option Places) (words : List (List ℕ)) (told : Option (List (List ℕ))) (status : ℕ) (x z : Ports) → IfSome told (λ ws. words ≡ ws)
+pub run_in : (world : Option Places) (words : List (List ℕ)) (told : Option (List (List ℕ))) (status : ℕ) (cuts : List ℕ) (x z : Ports) → IfSome told (λ ws. words ≡ ws)
     → ((place : ℕ) → bad_word words ≡ Some place → world ≡ None) → ((notice : Notice) → notice_in words ≡ Some notice → world ≡ None)
-    → ((setup : Setup) → request_in words ≡ Ok (Run setup) → HasRun setup status world x z) → IfSome world (λ w. HasRunAsAsked told status w x z)
-run_in None words told status x z same refused printed did = tt
-run_in (Some w) words told status x z same refused printed did = by_request (request_in words) refl
+    → ((setup : Setup) → request_in words ≡ Ok (Run setup) → HasRun setup status cuts world x z) → IfSome world (λ w. HasRunAsAsked told status cuts w x z)
+run_in None words told status cuts x z same refused printed did = tt
+run_in (Some w) words told status cuts x z same refused printed did = by_request (request_in words) refl
   where
-    by_request : (asked : Result Request ℕ) → request_in words ≡ asked → HasRunAsAsked told status w x z
+    by_request : (asked : Result Request ℕ) → request_in words ≡ asked → HasRunAsAsked told status cuts w x z
     by_request (Ok (Run setup)) is = record {
       setup = setup;
       asked = λ ws e. ap request_in (sym (told_words words ws told same e)) ∙ is;

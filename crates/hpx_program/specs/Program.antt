@@ -7,7 +7,7 @@ use Rattle.hpx_top.specs.Runs.{Ports, HasRun}
 use Rattle.hpx_top.specs.Usage.{request_in}
 
 -- a setup was run: the one that the words ask for, where they are told
-pub record HasRunAsAsked (words : Option (List (List ℕ))) (status : ℕ) (world : Places) (x z : Ports) : Type 0 where
+pub record HasRunAsAsked (words : Option (List (List ℕ))) (status : ℕ) (cuts : List ℕ) (world : Places) (x z : Ports) : Type 0 where
   pub setup : Setup
   pub asked : (told : List (List ℕ)) → words ≡ Some told → request_in told ≡ Ok (Run setup)
-  pub did : HasRun setup status (Some world) x z
+  pub did : HasRun setup status cuts (Some world) x z

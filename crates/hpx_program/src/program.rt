@@ -63,7 +63,7 @@ pub fn program<W: Words, S: Source, K: Sink, E: Sink, F: Fabric>(
         NothingFailed result.world x z → (result.status ≡ 0) ⊎ (result.status ≡ 1) ⊎ (result.status ≡ 6) }
     ensures did { let x = ports_of (S.left source.old) (S.taken source.old) (K.held sink.old) (S.faults source.old) (K.faults sink.old) (F.faults fabric) in
         let z = ports_of (S.left source.new) (S.taken source.new) (K.held sink.new) (S.faults source.new) (K.faults sink.new) (F.faults result.fabric) in
-        IfSome result.world (λ w. HasRunAsAsked (W.words given.now) result.status w x z) }
+        IfSome result.world (λ w. HasRunAsAsked (W.words given.now) result.status result.cuts.items w x z) }
 {
     match all_words(alloc, given) {
         Ok(words) => run(alloc, &words, source, sink, err, fabric),
@@ -73,6 +73,7 @@ pub fn program<W: Words, S: Source, K: Sink, E: Sink, F: Fabric>(
                 status: OUT_OF_MEMORY,
                 world: None,
                 fabric,
+                cuts: Vec::new(alloc),
             }
         }
     }

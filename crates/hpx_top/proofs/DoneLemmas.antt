@@ -1,11 +1,16 @@
 -- What was done of what the words ask for.
 use Rattle.std.specs.Prelude.{Result, Ok, Err, OnOk, OnErr, IfErr, IfSome, ⊤, length}
-use Rattle.std.proofs.Common.{ℕ, true, List, [], ◌≡◌, ◌≢◌, ◌≤◌, ◌⊎◌, Option, Some, None, refl, sym, ap, subst, ◌∙◌, inl, inr, arith}
+use Rattle.std.proofs.Common.{ℕ, true, false, List, [], ◌++◌, ◌≡◌, ◌≢◌, ◌≤◌, ◌⊎◌, Option, Some, None, refl, sym, ap, subst, ◌∙◌, inl, inr, arith}
 use Rattle.hpx_value.specs.declared.profile.Profile.{Profile}
 use Rattle.hpx_journal.specs.Entries.{Frame}
 use Rattle.hpx_journal.specs.Pool.{NoneFails, prints_of}
 use Rattle.hpx_ports.specs.declared.fabric.Wire.{Wire}
 use Rattle.hpx_journal.specs.declared.entry.Entry.{Entry}
+use Rattle.hpx_journal.specs.Whole.{IsLegal}
+use Rattle.hpx_steps.specs.Rest.{rules_of}
+use Rattle.app_console.specs.Console.{prompt}
+use Rattle.app_console.specs.Lines.{lines_of}
+use Rattle.hpx_top.specs.Acts.{act_of}
 use Rattle.hpx_counters.specs.declared.counter.Counter.{Counter}
 use Rattle.hpx_ports.specs.Faults.{Rose}
 use Rattle.hpx_ports.specs.Told.{followed}
@@ -19,13 +24,15 @@ use Rattle.hpx_top.specs.declared.task.Task.{Task}
 use Rattle.hpx_top.specs.declared.task.Task.TheVariants.{Console}
 use Rattle.hpx_top.specs.Computed.{HasComputed, IsAnswered, IsUnanswered, task_line, task_texts}
 use Rattle.hpx_top.specs.Printed.{HasTold, counters_text, notice_text, takes_memory}
-use Rattle.hpx_top.specs.Runs.{Errors, Ports, HasCause, HasDone, HasRun, HasServed, IsLawful, NothingFailed, Says}
-use Rattle.hpx_top.specs.Session.{rules, entries_in, shown_in, Feeds, NoneRefused, Tells, WritesFront}
+use Rattle.hpx_top.specs.Runs.{BeginsPlainly, Errors, Ports, HasCause, HasDone, HasRun, HasServed, IsLawful, NothingFailed, Says}
+use Rattle.hpx_top.specs.Session.{rules, entries_in, ByJournal, ByOneSpace, Feeds, NoneRefused, WritesFront}
 use Rattle.hpx_top.specs.Statuses.{IsStatus, status_after, status_of}
-use Rattle.hpx_top.specs.Texts.{Said, lines_text}
+use Rattle.hpx_top.specs.Texts.{commands, lines_text}
 use Rattle.hpx_top.specs.Usage.{IsSetup, IsTask}
 use Rattle.hpx_top.proofs.ComputeLemmas.{computed_in, computed_none, no_console, some_same, task_prints}
 use Rattle.hpx_top.proofs.EndLemmas.{read_from_none}
+use Rattle.hpx_top.proofs.OneSpaceLemmas.{served_plainly}
+use Rattle.hpx_top.proofs.PartLemmas.{none_own}
 use Rattle.hpx_top.proofs.RunLemmas.{at, lawful_calm, served_none}
 use Rattle.hpx_top.proofs.LineLemmas.{followed_nothing, front_all}
 use Rattle.hpx_top.proofs.ShowLemmas.{nothing_said}
@@ -39,22 +46,31 @@ told_in (Some w) n p flight trace is law none = lawful_calm w flight trace p is.
 same_console : (x y : UserConsole) → Console x ≡ Console y → x ≡ y
 same_console x y e = cc
 
+-- its journal is legal
+legal_in : (o : Option Places) (n : ℕ) (p : Profile) (flight : Option (List Frame)) (trace : Option (List Wire))
+    → IfSome o (λ w. (length w.nodes ≡ n) × (w.profile ≡ p)) → IfSome o (λ w. IsLawful w flight trace) → IsLegal (rules_of act_of n p) (entries_in o)
+legal_in None n p flight trace is law = tt
+legal_in (Some w) n p flight trace is law =
+    subst (λ r. IsLegal r w.journal.entries) (ap (λ k. rules_of act_of k w.profile) is.0 ∙ ap (λ q. rules_of act_of n q) is.1) law.promises.ledger.legal
+
 -- a console has no line of its own
-pub console_done : (task : Task) (console : UserConsole) (n : ℕ) (p : Profile) (s : ℕ) (o : Option Places) (x z : Ports) (flight : Option (List Frame))
-    (trace : Option (List Wire)) → task ≡ Console console → IfSome o (λ w. (length w.nodes ≡ n) × (w.profile ≡ p)) → IfSome o (λ w. IsLawful w flight trace)
-    → ((input : List ℕ) (said : Said) → x.left ≡ Some input → Tells console n (entries_in o) said → HasServed console said s input o x z) → HasDone task n p s o x z
-console_done task console n p s o x z flight trace is places law served = record {
+pub console_done : (task : Task) (console : UserConsole) (n : ℕ) (p : Profile) (s : ℕ) (cuts : List ℕ) (o : Option Places) (x z : Ports) (flight : Option (List Frame))
+    (trace : Option (List Wire)) → task ≡ Console console → 1 ≤ n → n ≤ 64 → length cuts ≤ 67108865 → IfSome o (λ w. (length w.nodes ≡ n) × (w.profile ≡ p))
+    → IfSome o (λ w. IsLawful w flight trace)
+    → ((input : List ℕ) → x.left ≡ Some input → HasServed console (ByJournal (rules_of act_of n p) cuts) s input o x z) → HasDone task n p s cuts o x z
+console_done task console n p s cuts o x z flight trace is some few many places law served = record {
   shown = λ line own. absurd (no_console task line own console is);
   computed = λ granted line own. absurd (no_console task line own console is);
   unread = λ line own. absurd (no_console task line own console is);
   no_read = λ line own. absurd (no_console task line own console is);
-  reads = λ input h. (served input (shown_in console (entries_in o)) h (inl refl)).reads;
+  reads = λ input h. (served input h).reads;
   served = λ other at input h.
-      subst (λ c. HasServed c (shown_in c (entries_in o)) s input o x z) (same_console console other (sym is ∙ at))
-      (served input (shown_in console (entries_in o)) h (inl refl));
-  served_plainly = λ granted other at input h.
-      subst (λ c. HasServed c (lines_text c n) s input o x z) (same_console console other (sym is ∙ at))
-      (served input (lines_text console n) h (inr (told_in o n p flight trace places law granted, refl)));
+      subst (λ c. HasServed c (ByJournal (rules_of act_of n p) cuts) s input o x z) (same_console console other (sym is ∙ at)) (served input h);
+  served_plainly = λ granted other at input h own.
+      let same = same_console console other (sym is ∙ at) in
+      subst (λ c. HasServed c (ByOneSpace n) s input o x z × BeginsPlainly c n input x.text z.text) same
+      (served_plainly console n p s cuts input o x z some few many (legal_in o n p flight trace places law) (told_in o n p flight trace places law granted)
+      (subst (λ c. none_own c (lines_of input) ≡ false) (sym same) own) (served input h));
 }
 
 -- what is printed of a task with a line of its own, where no ask was refused
@@ -77,38 +93,49 @@ pub computed_done : (setup : Setup) (line : List ℕ) (r : Result ⊤ SessionFau
     → IfSome o (λ w. OnOk r (IsAnswered (rules w) line w.journal.entries x.text z.text))
     → IfSome o (λ w. IfErr r (λ f. IsUnanswered f (rules w) line w.journal.entries x.text z.text))
     → z.left ≡ x.left → z.taken ≡ x.taken → z.read_faults ≡ x.read_faults → status_after r ≢ 2 → status_after r ≢ 9
-    → HasDone setup.task setup.localities setup.profile (status_after r) o x z
+    → HasDone setup.task setup.localities setup.profile (status_after r) [] o x z
 computed_done setup line r o x z flight trace h own is law none same ok err left taken faults no_read no_input = record {
   shown = λ other at. subst (λ l. HasComputed l (prints_of (entries_in o)) (status_after r) (entries_in o) x.text z.text) (some_same line other (sym own ∙ at))
       (computed_in o r line (prints_of (entries_in o)) x.text z.text none same (as_printed line o) ok err);
   computed = λ granted other at. subst (λ l. HasComputed l (task_texts setup.task) (status_after r) (entries_in o) x.text z.text) (some_same line other (sym own ∙ at))
       (computed_in o r line (task_texts setup.task) x.text z.text none same
       (prints_in setup.task line setup.localities setup.profile o flight trace h.task own h.some h.few is law granted) ok err);
-  unread = λ other at. (left, taken, faults);
+  unread = λ other at. (left, taken, faults, refl);
   no_read = λ other at. (no_read, no_input);
   reads = λ input there. rw (left, taken) (read_from_none input x.left x.taken there);
   served = λ console is. absurd (no_console setup.task line own console is);
   served_plainly = λ granted console is. absurd (no_console setup.task line own console is);
 }
 
+-- no line was handled
+pub done_without : {task : Task} {n : ℕ} {p : Profile} {s : ℕ} {cuts : List ℕ} {o : Option Places} {x z : Ports} → cuts ≡ [] → HasDone task n p s [] o x z → HasDone task n p s cuts o x z
+done_without {task} {n} {p} {s} {cuts} {o} {x} {z} none h = subst (λ cs. HasDone task n p s cs o x z) (sym none) h
+
 -- without a world, for want of memory, nothing was done
-pub none_done : (task : Task) (n : ℕ) (p : Profile) (r : Result ⊤ SessionFault) (x : Ports) → r ≡ Err OutOfMemory → HasDone task n p (status_after r) None x x
+pub none_done : (task : Task) (n : ℕ) (p : Profile) (r : Result ⊤ SessionFault) (x : Ports) → r ≡ Err OutOfMemory → HasDone task n p (status_after r) [] None x x
 none_done task n p r x e = record {
   shown = λ line is. computed_none line [] r x.text x.text e refl;
   computed = λ granted line is. computed_none line (task_texts task) r x.text x.text e refl;
-  unread = λ line is. (refl, refl, refl);
+  unread = λ line is. (refl, refl, refl, refl);
   no_read = λ line is. subst (λ q. (status_after q ≢ 2) × (status_after q ≢ 9)) (sym e) (λ s. absurd (omega arith), λ s. absurd (omega arith));
   reads = λ input h. read_from_none input x.left x.taken h;
-  served = λ console is input h. served_none (shown_in console []) r input x e h;
-  served_plainly = λ granted console is input h. served_none (lines_text console n) r input x e h;
+  served = λ console is input h. served_none (ByJournal (rules_of act_of n p) []) r input x e h;
+  served_plainly = λ granted console is input h own. (
+    served_none (ByOneSpace n) r input x e h,
+    record {
+      text = [];
+      is = sym (followed_nothing x.text);
+      begins = record { later = commands console ++ (lines_text console n (lines_of input) ++ prompt); is = refl };
+    },
+  );
 }
 
 -- ---- a setup
 
 -- the task was broken off, and no counter was written
-run_broken : (setup : Setup) (s : ℕ) (o : Option Places) (x z : Ports) → s ≢ 0 → IfSome o (λ w. (length w.nodes ≡ setup.localities) × (w.profile ≡ setup.profile))
-    → HasDone setup.task setup.localities setup.profile s o x z → HasRun setup s o x z
-run_broken setup s o x z failed is did = record {
+run_broken : (setup : Setup) (s : ℕ) (cuts : List ℕ) (o : Option Places) (x z : Ports) → s ≢ 0 → IfSome o (λ w. (length w.nodes ≡ setup.localities) × (w.profile ≡ setup.profile))
+    → HasDone setup.task setup.localities setup.profile s cuts o x z → HasRun setup s cuts o x z
+run_broken setup s cuts o x z failed is did = record {
   places = is;
   ended = s;
   mid = z;
@@ -126,12 +153,12 @@ counted_well : (counters : List Counter) (r : Result ⊤ SessionFault) (entries 
 counted_well counters (Ok t) entries old new Q ok front some cause = inl (refl, ok)
 counted_well counters (Err f) entries old new Q ok front some cause = inr (ap status_of cause.0, some, front)
 
-pub run_counted : (setup : Setup) (r : Result ⊤ SessionFault) (o : Option Places) (x mid : Ports) (text : Option (List ℕ)) (faults : ℕ) (Q : Type 0)
-    → IfSome o (λ w. (length w.nodes ≡ setup.localities) × (w.profile ≡ setup.profile)) → HasDone setup.task setup.localities setup.profile 0 o x mid
+pub run_counted : (setup : Setup) (cuts : List ℕ) (r : Result ⊤ SessionFault) (o : Option Places) (x mid : Ports) (text : Option (List ℕ)) (faults : ℕ) (Q : Type 0)
+    → IfSome o (λ w. (length w.nodes ≡ setup.localities) × (w.profile ≡ setup.profile)) → HasDone setup.task setup.localities setup.profile 0 cuts o x mid
     → OnOk r (text ≡ followed mid.text (counters_text setup.counters.items (entries_in o)))
     → OnErr r (WritesFront (counters_text setup.counters.items (entries_in o)) mid.text text) → OnErr r (setup.counters.items ≢ [])
-    → IfErr r (λ f. (f ≡ Write) × Q) → HasRun setup (status_after r) o x (record mid { text = text; write_faults = faults })
-run_counted setup r o x mid text faults Q is did ok front some cause = record {
+    → IfErr r (λ f. (f ≡ Write) × Q) → HasRun setup (status_after r) cuts o x (record mid { text = text; write_faults = faults })
+run_counted setup cuts r o x mid text faults Q is did ok front some cause = record {
   places = is;
   ended = 0;
   mid = mid;
@@ -154,12 +181,12 @@ failed_status BadFrame s = absurd (omega arith)
 failed_status Strange s = absurd (omega arith)
 failed_status InputFull s = absurd (omega arith)
 
-pub run_failed : (setup : Setup) (f : SessionFault) (r : Result ⊤ SessionFault) (o : Option Places) (x z : Ports) → r ≡ Err f
+pub run_failed : (setup : Setup) (cuts : List ℕ) (f : SessionFault) (r : Result ⊤ SessionFault) (o : Option Places) (x z : Ports) → r ≡ Err f
     → IfSome o (λ w. (length w.nodes ≡ setup.localities) × (w.profile ≡ setup.profile))
-    → HasDone setup.task setup.localities setup.profile (status_after r) o x z → HasRun setup (status_of f) o x z
-run_failed setup f r o x z failed is did =
-    run_broken setup (status_of f) o x z (failed_status f) is
-    (subst (λ q. HasDone setup.task setup.localities setup.profile (status_after q) o x z) failed did)
+    → HasDone setup.task setup.localities setup.profile (status_after r) cuts o x z → HasRun setup (status_of f) cuts o x z
+run_failed setup cuts f r o x z failed is did =
+    run_broken setup (status_of f) cuts o x z (failed_status f) is
+    (subst (λ q. HasDone setup.task setup.localities setup.profile (status_after q) cuts o x z) failed did)
 
 -- what caused the end of a task that ended well, and of the counters behind it
 pub cause_counted : (r : Result ⊤ SessionFault) (o : Option Places) (x mid : Ports) (text : Option (List ℕ)) (faults : ℕ) → HasCause 0 o x mid
@@ -310,8 +337,8 @@ not_one (Err InputFull) s = absurd (omega arith)
 pub cause_as : {s t : ℕ} {o : Option Places} {x z : Ports} → s ≡ t → HasCause s o x z → HasCause t o x z
 cause_as {s} {t} {o} {x} {z} e h = subst (λ n. HasCause n o x z) e h
 
-pub run_as : {setup : Setup} {s t : ℕ} {o : Option Places} {x z : Ports} → s ≡ t → HasRun setup s o x z → HasRun setup t o x z
-run_as {setup} {s} {t} {o} {x} {z} e h = subst (λ n. HasRun setup n o x z) e h
+pub run_as : {setup : Setup} {s t : ℕ} {cuts : List ℕ} {o : Option Places} {x z : Ports} → s ≡ t → HasRun setup s cuts o x z → HasRun setup t cuts o x z
+run_as {setup} {s} {t} {cuts} {o} {x} {z} e h = subst (λ n. HasRun setup n cuts o x z) e h
 
 pub told_as : {notice : Notice} {s t : ℕ} {old new : Option (List ℕ)} → s ≡ t → HasTold notice s old new → HasTold notice t old new
 told_as {notice} {s} {t} {old} {new} e h = subst (λ n. HasTold notice n old new) e h

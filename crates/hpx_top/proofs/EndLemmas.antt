@@ -1,37 +1,68 @@
 -- What the end of a session says of the bytes of its input.
-use Rattle.std.specs.Prelude.{IfSome, Result, Err, ◌≢◌, ◌≤◌, ◌<◌, suc}
+use Rattle.std.specs.Prelude.{IfSome, Result, Ok, Err, OnOk, IfErr, ⊤, ◌≢◌, ◌≤◌, ◌<◌, suc}
 use Rattle.std.specs.Option.{option_map}
 use Rattle.std.specs.List.{list_any, slice_split}
-use Rattle.std.proofs.Common.{ℕ, Bool, true, false, List, [], ◌∷◌, ◌++◌, ◌≡◌, ◌+◌, ◌⊎◌, length, Option, Some, None, refl, sym, ap, ◌∙◌, subst, inl, inr, arith, append-nil, append_assoc, length-append}
+use Rattle.std.proofs.Common.{ℕ, Bool, true, false, List, [], ◌∷◌, ◌++◌, ◌≡◌, ◌+◌, ◌⊎◌, length, drop, Option, Some, None, refl, sym, ap, ◌∙◌, subst, inl, inr, arith, append-nil, append_assoc, length-append}
+use Rattle.std.specs.List.{concat}
 use Rattle.hpx_journal.specs.declared.entry.Entry.{Entry}
+use Rattle.hpx_journal.specs.Entries.{Rules}
+use Rattle.hpx_journal.specs.Pool.{prints_of}
 use Rattle.hpx_ports.specs.Told.{preceded, followed}
+use Rattle.hpx_world.specs.Steps.{IsUnfed}
+use Rattle.app_console.specs.Console.{prompt}
 use Rattle.app_console.specs.Lines.{IsFront, is_quit, is_newline, before_quit, lines_in, lines_of, quits}
 use Rattle.hpx_top.specs.declared.consoles.UserConsole.{UserConsole}
-use Rattle.hpx_top.specs.Texts.{Said, fed, text_by}
+use Rattle.hpx_top.specs.Texts.{commands, fed, held_behind}
 use Rattle.hpx_top.specs.Reader.{Reading, HasRead, IsOut, input_left, lines_left, behind_line, behind}
 use Rattle.hpx_top.specs.declared.session.SessionFault.{SessionFault}
 use Rattle.hpx_top.specs.declared.session.SessionFault.TheVariants.{Read, Write, Fabric, JournalFull, OutOfMemory, BadFrame, Strange, InputFull}
-use Rattle.hpx_top.specs.Session.{lines_fed, IsCut, IsCutAt, IsCutIn, IsCutAtOpening, IsCutBy, IsOver, IsUnderWay, IsStopped}
-use Rattle.hpx_top.specs.Ends.{IsWhole, IsBrokenOff, IsBrokenIn, IsBrokenAtOpening, IsBegun, IsFullBehind, IsShort, IsEndedBy, IsReadFrom, IsReadUp, IsReadOn}
-use Rattle.hpx_top.proofs.LineLemmas.{Grows, told_rest, before_quit_append, front_then, followed_nothing}
-use Rattle.hpx_top.proofs.SessionLemmas.{under_cut, under_in, under_opening, under_over}
+use Rattle.hpx_top.specs.Session.{lines_fed, Telling, ByJournal, TellsAll, IsToldUp, IsTheirs, IsOfAll, IsCut, IsCutAt, IsCutIn, IsCutAtOpening, IsCutBy, IsEndCutBy, IsOver, IsUnderWay, IsStopped}
+use Rattle.hpx_top.specs.Ends.{IsWhole, IsBrokenOff, IsBrokenIn, IsBrokenAtEnd, IsBrokenAtOpening, IsBegun, IsFullBehind, IsShort, IsEndedBy, IsReadFrom, IsReadUp, IsReadOn}
+use Rattle.hpx_top.proofs.LineLemmas.{told_rest, before_quit_append, followed_nothing}
+use Rattle.hpx_top.proofs.PartLemmas.{told_more}
+use Rattle.hpx_top.proofs.SessionLemmas.{grown_up, let_go_fed, let_go_written, under_all, under_cut, under_end, under_in, under_opening}
 
 handed : (input : List ℕ) (left : Option (List (List ℕ))) (lines rest : List (List ℕ)) → list_any is_quit lines ≡ false
     → lines_in (slice_split is_newline input) ≡ lines ++ rest → lines_of input ≡ lines ++ before_quit rest
 handed input left lines rest goes_on is = ap before_quit is ∙ before_quit_append lines rest goes_on
 
-pub whole_at_end : {console : UserConsole} (said : Said) (ended : Bool) (input : List ℕ) (entries : List Entry) (old new : Option (List ℕ))
-    → IsOver console said ended (Some (lines_in (slice_split is_newline input))) old entries new → IsWhole console said input entries old new
-whole_at_end {console} said ended input entries old new o =
+-- all lines of the input
+all_of : {console : UserConsole} {r : Rules} {ended held : Bool} {cuts : List ℕ} {old : Option (List ℕ)} {entries : List Entry} {now : Option (List ℕ)} (input : List ℕ)
+    (o : IsOver console r ended (Some (lines_in (slice_split is_newline input))) old held cuts entries now) → lines_of input ≡ o.lines
+all_of {console} {r} {ended} {held} {cuts} {old} {entries} {now} input o =
     let rest = told_rest (lines_in (slice_split is_newline input)) o.lines o.left o.handled.first in
     let last : before_quit rest.0 ≡ [] = subst (λ l. IfSome l (λ others. before_quit others ≡ [])) rest.1 o.last in
-    let all : lines_of input ≡ o.lines
-    = handed input o.left o.lines rest.0 o.handled.goes_on rest.2 ∙ (ap (λ t. o.lines ++ t) last ∙ append-nil o.lines) in
-    record { lines = o.journal ∙ ap (fed console) (sym all); text = o.held ∙ ap (λ ls. followed old (text_by console said ls)) (sym all) }
+    handed input o.left o.lines rest.0 o.handled.goes_on rest.2 ∙ (ap (λ t. o.lines ++ t) last ∙ append-nil o.lines)
 
-pub broken_at : {console : UserConsole} (said : Said) (most : ℕ) (input : List ℕ) (entries : List Entry) (old new : Option (List ℕ))
-    → IsCut console said most (Some (lines_in (slice_split is_newline input))) old entries new → IsBrokenOff console said most input entries old new
-broken_at {console} said most input entries old new c =
+whole_at_end : {console : UserConsole} {r : Rules} {ended held : Bool} {cuts : List ℕ} {before : Option (List ℕ)} {now : Option (List ℕ)} {old : List Entry} (input : List ℕ) (new : List Entry)
+    (later : Option (List ℕ)) (o : IsOver console r ended (Some (lines_in (slice_split is_newline input))) before held cuts old now) → IsUnfed old new → (held ≡ false → new ≡ old)
+    → later ≡ followed now (concat (prints_of (drop (length old) new))) → IsWhole console (ByJournal r cuts) input new before later
+whole_at_end {console} {r} {ended} {held} {cuts} {before} {now} {old} input new later o unfed still is =
+    let all = all_of input o in
+    let more = concat (prints_of (drop (length old) new)) in
+    record {
+      lines = let_go_fed o unfed ∙ ap (fed console) (sym all);
+      text = o.text ++ (prompt ++ more);
+      told = subst (λ ls. IsToldUp console r cuts new ls (o.text ++ (prompt ++ more))) (sym all) (grown_up o unfed still);
+      is = let_go_written more later o is;
+    }
+
+broken_end : {console : UserConsole} {r : Rules} {ended held : Bool} {cuts : List ℕ} {before : Option (List ℕ)} {now : Option (List ℕ)} {old : List Entry} (input : List ℕ) (new : List Entry)
+    (later : Option (List ℕ)) (o : IsOver console r ended (Some (lines_in (slice_split is_newline input))) before held cuts old now) → IsUnfed old new → held ≡ true
+    → later ≡ now → IsBrokenAtEnd console (ByJournal r cuts) input new before later
+broken_end {console} {r} {ended} {held} {cuts} {before} {now} {old} input new later o unfed on same =
+    let all = all_of input o in
+    record {
+      held = ap (held_behind console false) all ∙ (sym o.mode ∙ on);
+      lines = let_go_fed o unfed ∙ ap (fed console) (sym all);
+      text = o.text;
+      told = subst (λ ls. TellsAll console (ByJournal r cuts) new ls o.text) (sym all) (told_more unfed.more unfed.is o.told, o.count);
+      is = same ∙ o.written;
+    }
+
+broken_at : {console : UserConsole} {telling : Telling} (most : ℕ) (input : List ℕ) (entries : List Entry) (old new : Option (List ℕ))
+    → IsCut console telling most (Some (lines_in (slice_split is_newline input))) old entries new → IsBrokenOff console telling most input entries old new
+broken_at {console} {telling} most input entries old new c =
     let rest = told_rest (lines_in (slice_split is_newline input)) (c.lines ++ c.next) c.left c.handled.first in
     record {
       handled = c.lines;
@@ -40,12 +71,14 @@ broken_at {console} said most input entries old new c =
       first = handed input c.left (c.lines ++ c.next) rest.0 c.handled.goes_on rest.2;
       few = c.few;
       lines = c.journal;
-      text = c.held;
+      text = c.text;
+      told = c.told;
+      is = c.written;
     }
 
-pub broken_in : {console : UserConsole} (said : Said) (input : List ℕ) (entries : List Entry) (old new : Option (List ℕ))
-    → IsCutIn console said (Some (lines_in (slice_split is_newline input))) old entries new → IsBrokenIn console said input entries old new
-broken_in {console} said input entries old new c =
+broken_in : {console : UserConsole} {telling : Telling} (input : List ℕ) (entries : List Entry) (old new : Option (List ℕ))
+    → IsCutIn console telling (Some (lines_in (slice_split is_newline input))) old entries new → IsBrokenIn console telling input entries old new
+broken_in {console} {telling} input entries old new c =
     let lines = c.lines ++ c.line ∷ [] in
     let rest = told_rest (lines_in (slice_split is_newline input)) lines c.left c.handled.first in
     record {
@@ -55,45 +88,58 @@ broken_in {console} said input entries old new c =
       first = handed input c.left lines rest.0 c.handled.goes_on rest.2 ∙ append_assoc c.lines (c.line ∷ []) (before_quit rest.0);
       short = c.short;
       lines = c.journal;
-      text = c.held;
+      text = c.text;
+      told = c.told;
+      is = c.written;
     }
 
-pub begun_at : {console : UserConsole} (said : Said) (input : List ℕ) (entries : List Entry) (old new : Option (List ℕ)) → Grows console said
-    → IsUnderWay console said (Some (lines_in (slice_split is_newline input))) old entries new → IsBegun console said input entries old new
-begun_at {console} said input entries old new front u =
-    let rest = told_rest (lines_in (slice_split is_newline input)) u.lines u.left u.handled.first in
-    let first : lines_of input ≡ u.lines ++ before_quit rest.0 = handed input u.left u.lines rest.0 u.handled.goes_on rest.2 in
+begun_at : {console : UserConsole} {telling : Telling} (input : List ℕ) (entries : List Entry) (old new : Option (List ℕ))
+    → IsUnderWay console telling (Some (lines_in (slice_split is_newline input))) old entries new → IsBegun console telling input entries old new
+begun_at {console} {telling} input entries old new u =
+    let rest = told_rest (lines_in (slice_split is_newline input)) (u.lines ++ u.next) u.left u.handled.first in
     record {
       handled = u.lines;
+      next = u.next;
       later = before_quit rest.0;
-      first = first;
+      first = handed input u.left (u.lines ++ u.next) rest.0 u.handled.goes_on rest.2;
+      few = u.few;
       lines = u.journal;
-      text = u.written.front;
-      is = u.written.held;
-      theirs = u.written.begins;
-      begins = front_then u.written.front (text_by console said u.lines) (text_by console said (lines_of input)) u.written.begins
-          (subst (λ ls. IsFront (text_by console said u.lines) (text_by console said ls)) (sym first) (front u.lines (before_quit rest.0)));
+      text = u.text;
+      is = u.written;
+      theirs = theirs rest.0 rest.1 u.theirs;
       almost = u.almost;
     }
+  where
+    theirs : (rest : List (List ℕ)) → u.left ≡ Some rest
+        → (IsTheirs console telling entries u.lines u.text
+        ⊎ (IsOfAll console telling entries u.lines u.text × (u.next ≡ []) × IfSome u.left (λ others. before_quit others ≡ []))
+        ⊎ ((u.lines ≡ []) × IsFront u.text (commands console)))
+        → (IsTheirs console telling entries u.lines u.text
+        ⊎ (IsOfAll console telling entries u.lines u.text × (u.next ≡ []) × (before_quit rest ≡ []))
+        ⊎ ((u.lines ≡ []) × IsFront u.text (commands console)))
+    theirs rest is (inl t) = inl t
+    theirs rest is (inr (inl a)) = inr (inl (a.0, a.1, subst (λ l. IfSome l (λ others. before_quit others ≡ [])) is a.2))
+    theirs rest is (inr (inr n)) = inr (inr n)
 
 -- nothing was done yet
-pub begun_nothing : {console : UserConsole} (said : Said) (input : List ℕ) (entries : List Entry) (old new : Option (List ℕ)) → entries ≡ [] → new ≡ old → IsBegun console said input entries old new
-begun_nothing {console} said input entries old new empty same = record {
+pub begun_nothing : {console : UserConsole} (telling : Telling) (input : List ℕ) (entries : List Entry) (old new : Option (List ℕ)) → entries ≡ [] → new ≡ old → IsBegun console telling input entries old new
+begun_nothing {console} telling input entries old new empty same = record {
   handled = [];
+  next = [];
   later = lines_of input;
   first = refl;
+  few = omega arith;
   lines = inr (ap lines_fed empty, refl);
   text = [];
   is = same ∙ sym (followed_nothing old);
-  theirs = record { later = text_by console said []; is = refl };
-  begins = record { later = text_by console said (lines_of input); is = refl };
-  almost = inl (ap lines_fed empty, refl);
+  theirs = inr (inr (refl, record { later = commands console; is = refl }));
+  almost = inr refl;
 }
 
-pub read_up_at : {console : UserConsole} (said : Said) (ended : Bool) (input : List ℕ) (reading : Reading) (left : Option (List ℕ)) (entries : List Entry) (old new : Option (List ℕ))
-    → IsOver console said ended (Some (lines_in (slice_split is_newline input))) old entries new → HasRead (Some input) reading left → reading.ended ≡ ended
+read_up_at : {console : UserConsole} {r : Rules} {ended held : Bool} {cuts : List ℕ} {old now : Option (List ℕ)} {entries : List Entry} (input : List ℕ) (reading : Reading) (left : Option (List ℕ))
+    → IsOver console r ended (Some (lines_in (slice_split is_newline input))) old held cuts entries now → HasRead (Some input) reading left → reading.ended ≡ ended
     → IsReadUp input left
-read_up_at {console} said ended input reading left entries old new o h same = up o.read_up
+read_up_at {console} {r} {ended} {held} {cuts} {old} {now} {entries} input reading left o h same = up o.read_up
   where
     up : (ended ≡ true) ⊎ (quits input ≡ true) → IsReadUp input left
     up (inr quit) = inl quit
@@ -133,57 +179,88 @@ read_on_at n input reading left s h all =
 abbrev failed : (T : Type 0) → SessionFault → Result T SessionFault
 failed T f = Err f
 
-begun_cut : {console : UserConsole} (said : Said) (most : ℕ) (input : List ℕ) (entries : List Entry) (old new : Option (List ℕ)) → Grows console said → most ≤ 1
-    → IsCut console said most (Some (lines_in (slice_split is_newline input))) old entries new → IsBegun console said input entries old new
-begun_cut {console} said most input entries old new front one c =
-    begun_at said input entries old new front (under_cut said most (Some (lines_in (slice_split is_newline input))) old new entries front one c)
+ended_at : (console : UserConsole) (r : Rules) (cuts : List ℕ) (f : SessionFault) (input : List ℕ) (entries : List Entry) (old new : Option (List ℕ))
+    → IsCutBy console f (ByJournal r cuts) (Some (lines_in (slice_split is_newline input))) old entries new → IsEndedBy console f (ByJournal r cuts) input entries old new
+ended_at console r cuts Write input entries old new c = begun_at input entries old new c
+ended_at console r cuts Read input entries old new c = broken_at 0 input entries old new c
+ended_at console r cuts InputFull input entries old new c = broken_at 0 input entries old new c
+ended_at console r cuts Fabric input entries old new c = inl (broken_in input entries old new c)
+ended_at console r cuts JournalFull input entries old new c = inl (broken_in input entries old new c)
+ended_at console r cuts BadFrame input entries old new c = inl (broken_in input entries old new c)
+ended_at console r cuts Strange input entries old new c = inl (broken_in input entries old new c)
+ended_at console r cuts OutOfMemory input entries old new c = inl (broken_at 1 input entries old new c)
 
-begun_in : {console : UserConsole} (said : Said) (input : List ℕ) (entries : List Entry) (old new : Option (List ℕ)) → Grows console said
-    → IsCutIn console said (Some (lines_in (slice_split is_newline input))) old entries new → IsBegun console said input entries old new
-begun_in {console} said input entries old new front c =
-    begun_at said input entries old new front (under_in said (Some (lines_in (slice_split is_newline input))) old new entries front c)
+begun_cut : {console : UserConsole} {r : Rules} {cuts : List ℕ} (most : ℕ) (input : List ℕ) (entries : List Entry) (old new : Option (List ℕ)) → most ≤ 1
+    → IsCut console (ByJournal r cuts) most (Some (lines_in (slice_split is_newline input))) old entries new → IsBegun console (ByJournal r cuts) input entries old new
+begun_cut {console} {r} {cuts} most input entries old new one c =
+    begun_at input entries old new (under_cut most (Some (lines_in (slice_split is_newline input))) old new entries one c)
 
-pub ended_at : (console : UserConsole) (said : Said) (f : SessionFault) (input : List ℕ) (entries : List Entry) (old new : Option (List ℕ)) → Grows console said
-    → IsCutBy console f said (Some (lines_in (slice_split is_newline input))) old entries new → IsEndedBy console f said input entries old new
-ended_at console said Write input entries old new front c = begun_at said input entries old new front c
-ended_at console said Read input entries old new front c = broken_at said 0 input entries old new c
-ended_at console said InputFull input entries old new front c = broken_at said 0 input entries old new c
-ended_at console said Fabric input entries old new front c = inl (broken_in said input entries old new c)
-ended_at console said JournalFull input entries old new front c = inl (broken_in said input entries old new c)
-ended_at console said BadFrame input entries old new front c = inl (broken_in said input entries old new c)
-ended_at console said Strange input entries old new front c = inl (broken_in said input entries old new c)
-ended_at console said OutOfMemory input entries old new front c = inl (broken_at said 1 input entries old new c)
+begun_in : {console : UserConsole} {r : Rules} {cuts : List ℕ} (input : List ℕ) (entries : List Entry) (old new : Option (List ℕ))
+    → IsCutIn console (ByJournal r cuts) (Some (lines_in (slice_split is_newline input))) old entries new → IsBegun console (ByJournal r cuts) input entries old new
+begun_in {console} {r} {cuts} input entries old new c = begun_at input entries old new (under_in (Some (lines_in (slice_split is_newline input))) old new entries c)
 
-pub begun_by : {console : UserConsole} (said : Said) (f : SessionFault) (input : List ℕ) (entries : List Entry) (old new : Option (List ℕ)) → Grows console said
-    → IsCutBy console f said (Some (lines_in (slice_split is_newline input))) old entries new → IsBegun console said input entries old new
-begun_by {console} said Write input entries old new front c = begun_at said input entries old new front c
-begun_by {console} said Read input entries old new front c = begun_cut said 0 input entries old new front (omega arith) c
-begun_by {console} said InputFull input entries old new front c = begun_cut said 0 input entries old new front (omega arith) c
-begun_by {console} said Fabric input entries old new front c = begun_in said input entries old new front c
-begun_by {console} said JournalFull input entries old new front c = begun_in said input entries old new front c
-begun_by {console} said BadFrame input entries old new front c = begun_in said input entries old new front c
-begun_by {console} said Strange input entries old new front c = begun_in said input entries old new front c
-begun_by {console} said OutOfMemory input entries old new front c = begun_cut said 1 input entries old new front (omega arith) c
+begun_by : {console : UserConsole} {r : Rules} {cuts : List ℕ} (f : SessionFault) (input : List ℕ) (entries : List Entry) (old new : Option (List ℕ))
+    → IsCutBy console f (ByJournal r cuts) (Some (lines_in (slice_split is_newline input))) old entries new → IsBegun console (ByJournal r cuts) input entries old new
+begun_by {console} {r} {cuts} Write input entries old new c = begun_at input entries old new c
+begun_by {console} {r} {cuts} Read input entries old new c = begun_cut 0 input entries old new (omega arith) c
+begun_by {console} {r} {cuts} InputFull input entries old new c = begun_cut 0 input entries old new (omega arith) c
+begun_by {console} {r} {cuts} Fabric input entries old new c = begun_in input entries old new c
+begun_by {console} {r} {cuts} JournalFull input entries old new c = begun_in input entries old new c
+begun_by {console} {r} {cuts} BadFrame input entries old new c = begun_in input entries old new c
+begun_by {console} {r} {cuts} Strange input entries old new c = begun_in input entries old new c
+begun_by {console} {r} {cuts} OutOfMemory input entries old new c = begun_cut 1 input entries old new (omega arith) c
 
 -- while the accumulator was made
-pub opening_broken : {console : UserConsole} (entries : List Entry) (old new : Option (List ℕ)) → IsCutAtOpening console old entries new → IsBrokenAtOpening console entries old new
-opening_broken {console} entries old new c = record { only = c.only; lines = c.journal; text = c.held }
+opening_broken : {console : UserConsole} (entries : List Entry) (old new : Option (List ℕ)) → IsCutAtOpening console old entries new → IsBrokenAtOpening console entries old new
+opening_broken {console} entries old new c = record { only = c.only; lines = c.journal; text = c.written }
 
-pub begun_opening : {console : UserConsole} (said : Said) (input : List ℕ) (entries : List Entry) (old new : Option (List ℕ)) → Grows console said → said [] ≡ [] → IsCutAtOpening console old entries new
-    → IsBegun console said input entries old new
-begun_opening {console} said input entries old new front none c =
-    begun_at said input entries old new front (under_opening said (Some (lines_in (slice_split is_newline input))) old new entries none c)
+pub begun_opening : {console : UserConsole} (telling : Telling) (input : List ℕ) (entries : List Entry) (old new : Option (List ℕ)) → IsCutAtOpening console old entries new
+    → IsBegun console telling input entries old new
+begun_opening {console} telling input entries old new c =
+    begun_at input entries old new (under_opening telling (Some (lines_in (slice_split is_newline input))) old new entries c)
 
-pub ended_opening : {console : UserConsole} {T : Type 0} (said : Said) (f : SessionFault) (input : List ℕ) (entries : List Entry) (old new : Option (List ℕ))
-    → (failed T f ≢ Err Read) × (failed T f ≢ Err Write) × (failed T f ≢ Err InputFull) → IsCutAtOpening console old entries new → IsEndedBy console f said input entries old new
-ended_opening {console} said Read input entries old new other c = absurd (other.0 refl)
-ended_opening {console} said Write input entries old new other c = absurd (other.1 refl)
-ended_opening {console} said InputFull input entries old new other c = absurd (other.2 refl)
-ended_opening {console} said Fabric input entries old new other c = inr (opening_broken entries old new c)
-ended_opening {console} said JournalFull input entries old new other c = inr (opening_broken entries old new c)
-ended_opening {console} said BadFrame input entries old new other c = inr (opening_broken entries old new c)
-ended_opening {console} said Strange input entries old new other c = inr (opening_broken entries old new c)
-ended_opening {console} said OutOfMemory input entries old new other c = inr (opening_broken entries old new c)
+pub ended_opening : {console : UserConsole} {T : Type 0} (telling : Telling) (f : SessionFault) (input : List ℕ) (entries : List Entry) (old new : Option (List ℕ))
+    → (failed T f ≢ Err Read) × (failed T f ≢ Err Write) × (failed T f ≢ Err InputFull) → IsCutAtOpening console old entries new → IsEndedBy console f telling input entries old new
+ended_opening {console} telling Read input entries old new other c = absurd (other.0 refl)
+ended_opening {console} telling Write input entries old new other c = absurd (other.1 refl)
+ended_opening {console} telling InputFull input entries old new other c = absurd (other.2 refl)
+ended_opening {console} telling Fabric input entries old new other c = inr (inr (opening_broken entries old new c))
+ended_opening {console} telling JournalFull input entries old new other c = inr (inr (opening_broken entries old new c))
+ended_opening {console} telling BadFrame input entries old new other c = inr (inr (opening_broken entries old new c))
+ended_opening {console} telling Strange input entries old new other c = inr (inr (opening_broken entries old new c))
+ended_opening {console} telling OutOfMemory input entries old new other c = inr (inr (opening_broken entries old new c))
+
+-- what was held back was not let go
+ended_end : {console : UserConsole} {r : Rules} {ended held : Bool} {cuts : List ℕ} {before : Option (List ℕ)} {now : Option (List ℕ)} {old : List Entry} (f : SessionFault) (input : List ℕ)
+    (new : List Entry) (later : Option (List ℕ)) (o : IsOver console r ended (Some (lines_in (slice_split is_newline input))) before held cuts old now) → IsUnfed old new
+    → held ≡ true → (held ≡ false → new ≡ old) → IsEndCutBy f old new now later → IsEndedBy console f (ByJournal r cuts) input new before later
+ended_end {console} {r} {ended} {held} {cuts} {before} {now} {old} Write input new later o unfed on still c =
+    begun_at input new before later (under_end (Some (lines_in (slice_split is_newline input))) before now later old new o unfed still c)
+ended_end {console} {r} {ended} {held} {cuts} {before} {now} {old} Read input new later o unfed on still c = absurd c
+ended_end {console} {r} {ended} {held} {cuts} {before} {now} {old} InputFull input new later o unfed on still c = absurd c
+ended_end {console} {r} {ended} {held} {cuts} {before} {now} {old} Fabric input new later o unfed on still c = inr (inl (broken_end input new later o unfed on c))
+ended_end {console} {r} {ended} {held} {cuts} {before} {now} {old} JournalFull input new later o unfed on still c = inr (inl (broken_end input new later o unfed on c))
+ended_end {console} {r} {ended} {held} {cuts} {before} {now} {old} BadFrame input new later o unfed on still c = inr (inl (broken_end input new later o unfed on c))
+ended_end {console} {r} {ended} {held} {cuts} {before} {now} {old} Strange input new later o unfed on still c = inr (inl (broken_end input new later o unfed on c))
+ended_end {console} {r} {ended} {held} {cuts} {before} {now} {old} OutOfMemory input new later o unfed on still c = inr (inl (broken_end input new later o unfed on c))
+
+begun_end : {console : UserConsole} {r : Rules} {ended held : Bool} {cuts : List ℕ} {before : Option (List ℕ)} {now : Option (List ℕ)} {old : List Entry} (f : SessionFault) (input : List ℕ)
+    (new : List Entry) (later : Option (List ℕ)) (o : IsOver console r ended (Some (lines_in (slice_split is_newline input))) before held cuts old now) → IsUnfed old new
+    → (held ≡ false → new ≡ old) → IsEndCutBy f old new now later → IsBegun console (ByJournal r cuts) input new before later
+begun_end {console} {r} {ended} {held} {cuts} {before} {now} {old} f input new later o unfed still c = begun_at input new before later (under f c)
+  where
+    all : Option (List (List ℕ))
+    all = Some (lines_in (slice_split is_newline input))
+
+    under : (f : SessionFault) → IsEndCutBy f old new now later → IsUnderWay console (ByJournal r cuts) all before new later
+    under Write c = under_end all before now later old new o unfed still c
+    under Read c = absurd c
+    under InputFull c = absurd c
+    under Fabric c = under_all all before now later old new o unfed c
+    under JournalFull c = under_all all before now later old new o unfed c
+    under BadFrame c = under_all all before now later old new o unfed c
+    under Strange c = under_all all before now later old new o unfed c
+    under OutOfMemory c = under_all all before now later old new o unfed c
 
 -- ---- the same of the bytes that a source had left
 
@@ -193,19 +270,76 @@ all_lines left = lines_left (record { pending = []; read = 0; ended = false }) l
 told : (input : List ℕ) (left : Option (List ℕ)) → left ≡ Some input → all_lines left ≡ Some (lines_in (slice_split is_newline input))
 told input left h = ap all_lines h
 
-pub whole_from : {console : UserConsole} (said : Said) (ended : Bool) (input : List ℕ) (left : Option (List ℕ)) (entries : List Entry) (old new : Option (List ℕ)) → left ≡ Some input
-    → IsOver console said ended (all_lines left) old entries new → IsWhole console said input entries old new
-whole_from {console} said ended input left entries old new h o = whole_at_end said ended input entries old new (subst (λ all. IsOver console said ended all old entries new) (told input left h) o)
+-- how it ends once all lines were handled
+pub whole_from : {console : UserConsole} {r : Rules} {ended held : Bool} {cuts : List ℕ} {before now : Option (List ℕ)} {old : List Entry} (input : List ℕ) (left : Option (List ℕ)) (new : List Entry)
+    (later : Option (List ℕ)) → left ≡ Some input → IsOver console r ended (all_lines left) before held cuts old now → IsUnfed old new → (held ≡ false → new ≡ old)
+    → later ≡ followed now (concat (prints_of (drop (length old) new))) → IsWhole console (ByJournal r cuts) input new before later
+whole_from {console} {r} {ended} {held} {cuts} {before} {now} {old} input left new later h o unfed still is =
+    whole_at_end input new later (subst (λ all. IsOver console r ended all before held cuts old now) (told input left h) o) unfed still is
 
-pub begun_over : {console : UserConsole} (said : Said) (ended : Bool) (input : List ℕ) (left : Option (List ℕ)) (entries : List Entry) (old new : Option (List ℕ)) → Grows console said → left ≡ Some input
-    → IsOver console said ended (all_lines left) old entries new → IsBegun console said input entries old new
-begun_over {console} said ended input left entries old new front h o =
-    begun_at said input entries old new front (under_over said ended _ old new entries (subst (λ all. IsOver console said ended all old entries new) (told input left h) o))
+pub begun_whole : {console : UserConsole} {r : Rules} {ended held : Bool} {cuts : List ℕ} {before now : Option (List ℕ)} {old : List Entry} (input : List ℕ) (left : Option (List ℕ)) (new : List Entry)
+    (later : Option (List ℕ)) → left ≡ Some input → IsOver console r ended (all_lines left) before held cuts old now → IsUnfed old new → (held ≡ false → new ≡ old)
+    → later ≡ followed now (concat (prints_of (drop (length old) new))) → IsBegun console (ByJournal r cuts) input new before later
+begun_whole {console} {r} {ended} {held} {cuts} {before} {now} {old} input left new later h o unfed still is =
+    begun_end Write input new later (subst (λ all. IsOver console r ended all before held cuts old now) (told input left h) o) unfed still (record {
+      front = concat (prints_of (drop (length old) new));
+      begins = record { later = []; is = append-nil (concat (prints_of (drop (length old) new))) };
+      held = is;
+    })
 
-pub read_up_from : {console : UserConsole} (said : Said) (ended : Bool) (input : List ℕ) (left rest : Option (List ℕ)) (reading : Reading) (entries : List Entry) (old new : Option (List ℕ))
-    → left ≡ Some input → IsOver console said ended (all_lines left) old entries new → HasRead left reading rest → reading.ended ≡ ended → IsReadUp input rest
-read_up_from {console} said ended input left rest reading entries old new h o read same =
-    read_up_at said ended input reading rest entries old new (subst (λ all. IsOver console said ended all old entries new) (told input left h) o)
+pub ended_end_from : {console : UserConsole} {r : Rules} {ended held : Bool} {cuts : List ℕ} {before now : Option (List ℕ)} {old : List Entry} (f : SessionFault) (input : List ℕ) (left : Option (List ℕ))
+    (new : List Entry) (later : Option (List ℕ)) → left ≡ Some input → IsOver console r ended (all_lines left) before held cuts old now → IsUnfed old new → held ≡ true
+    → (held ≡ false → new ≡ old) → IsEndCutBy f old new now later → IsEndedBy console f (ByJournal r cuts) input new before later
+ended_end_from {console} {r} {ended} {held} {cuts} {before} {now} {old} f input left new later h o unfed on still c =
+    ended_end f input new later (subst (λ all. IsOver console r ended all before held cuts old now) (told input left h) o) unfed on still c
+
+pub begun_end_from : {console : UserConsole} {r : Rules} {ended held : Bool} {cuts : List ℕ} {before now : Option (List ℕ)} {old : List Entry} (f : SessionFault) (input : List ℕ) (left : Option (List ℕ))
+    (new : List Entry) (later : Option (List ℕ)) → left ≡ Some input → IsOver console r ended (all_lines left) before held cuts old now → IsUnfed old new
+    → (held ≡ false → new ≡ old) → IsEndCutBy f old new now later → IsBegun console (ByJournal r cuts) input new before later
+begun_end_from {console} {r} {ended} {held} {cuts} {before} {now} {old} f input left new later h o unfed still c =
+    begun_end f input new later (subst (λ all. IsOver console r ended all before held cuts old now) (told input left h) o) unfed still c
+
+pub short_end : {console : UserConsole} {r : Rules} {ended held : Bool} {cuts : List ℕ} {before now : Option (List ℕ)} {old : List Entry} (input : List ℕ) (left rest : Option (List ℕ))
+    (new : List Entry) (later : Option (List ℕ)) → left ≡ Some input → IsOver console r ended (all_lines left) before held cuts old now → IsUnfed old new → held ≡ true
+    → later ≡ now → IsShort console (ByJournal r cuts) input rest new before later
+short_end {console} {r} {ended} {held} {cuts} {before} {now} {old} input left rest new later h o unfed on same =
+    inr (inl (broken_end input new later (subst (λ all. IsOver console r ended all before held cuts old now) (told input left h) o) unfed on same))
+
+-- by what letting go answers
+pub begun_result : {console : UserConsole} {r : Rules} {ended held : Bool} {cuts : List ℕ} {before now : Option (List ℕ)} {old : List Entry} (result : Result ⊤ SessionFault) (input : List ℕ)
+    (left : Option (List ℕ)) (new : List Entry) (later : Option (List ℕ)) → left ≡ Some input → IsOver console r ended (all_lines left) before held cuts old now → IsUnfed old new
+    → (held ≡ false → new ≡ old) → OnOk result (later ≡ followed now (concat (prints_of (drop (length old) new)))) → IfErr result (λ f. IsEndCutBy f old new now later)
+    → IsBegun console (ByJournal r cuts) input new before later
+begun_result (Ok t) input left new later h o unfed still ok err = begun_whole input left new later h o unfed still ok
+begun_result (Err f) input left new later h o unfed still ok err = begun_end_from f input left new later h o unfed still err
+
+-- it fails in a hold alone
+pub held_so : (held : Bool) (f : SessionFault) (result : Result ⊤ SessionFault) → result ≡ Err f → (held ≡ false → result ≡ Ok tt) → held ≡ true
+held_so true f result is free = refl
+held_so false f result is free = absurd (let both : ◌≡◌ {A = Result ⊤ SessionFault} (Ok tt) (Err f) = sym (free refl) ∙ is in cc)
+
+pub ended_result : {console : UserConsole} {r : Rules} {ended held : Bool} {cuts : List ℕ} {before now : Option (List ℕ)} {old : List Entry} (result : Result ⊤ SessionFault) (input : List ℕ)
+    (left : Option (List ℕ)) (new : List Entry) (later : Option (List ℕ)) → left ≡ Some input → IsOver console r ended (all_lines left) before held cuts old now → IsUnfed old new
+    → (held ≡ false → (result ≡ Ok tt) × (new ≡ old)) → IfErr result (λ f. IsEndCutBy f old new now later) → IfErr result (λ f. IsEndedBy console f (ByJournal r cuts) input new before later)
+ended_result (Ok t) input left new later h o unfed still err = tt
+ended_result {console} {r} {ended} {held} (Err f) input left new later h o unfed still err =
+    ended_end_from f input left new later h o unfed (held_so held f (Err f) refl (λ free. (still free).0)) (λ free. (still free).1) err
+
+-- memory was wanting
+written_before : (result : Result ⊤ SessionFault) (old new : List Entry) (now later : Option (List ℕ)) → result ≡ Err OutOfMemory → IfErr result (λ f. IsEndCutBy f old new now later) → later ≡ now
+written_before result old new now later is h = subst (λ q. IfErr q (λ f. IsEndCutBy f old new now later)) is h
+
+pub short_result : {console : UserConsole} {r : Rules} {ended held : Bool} {cuts : List ℕ} {before now : Option (List ℕ)} {old : List Entry} (result : Result ⊤ SessionFault) (input : List ℕ)
+    (left rest : Option (List ℕ)) (new : List Entry) (later : Option (List ℕ)) → left ≡ Some input → IsOver console r ended (all_lines left) before held cuts old now → IsUnfed old new
+    → (held ≡ false → (result ≡ Ok tt) × (new ≡ old)) → IfErr result (λ f. IsEndCutBy f old new now later) → result ≡ Err OutOfMemory
+    → IsShort console (ByJournal r cuts) input rest new before later
+short_result {console} {r} {ended} {held} {cuts} {before} {now} {old} result input left rest new later h o unfed still err is =
+    short_end input left rest new later h o unfed (held_so held OutOfMemory result is (λ free. (still free).0)) (written_before result old new now later is err)
+
+pub read_up_from : {console : UserConsole} {r : Rules} {ended held : Bool} {cuts : List ℕ} {old now : Option (List ℕ)} {entries : List Entry} (input : List ℕ) (left rest : Option (List ℕ)) (reading : Reading)
+    → left ≡ Some input → IsOver console r ended (all_lines left) old held cuts entries now → HasRead left reading rest → reading.ended ≡ ended → IsReadUp input rest
+read_up_from {console} {r} {ended} {held} {cuts} {old} {now} {entries} input left rest reading h o read same =
+    read_up_at input reading rest (subst (λ all. IsOver console r ended all old held cuts entries now) (told input left h) o)
     (subst (λ all. HasRead all reading rest) h read) same
 
 pub read_on_from : (n : ℕ) (input : List ℕ) (left rest : Option (List ℕ)) (reading : Reading) → left ≡ Some input → IsStopped (all_lines left) reading rest
@@ -223,15 +357,15 @@ read_from input left rest reading before after h read count =
 pub read_from_none : (input : List ℕ) (left : Option (List ℕ)) (taken : ℕ) → left ≡ Some input → IsReadFrom input left taken taken
 read_from_none input left taken h = record { front = []; rest = input; input_is = refl; left_is = h; count = omega arith }
 
-pub ended_from : (console : UserConsole) (said : Said) (f : SessionFault) (input : List ℕ) (left : Option (List ℕ)) (entries : List Entry) (old new : Option (List ℕ)) → Grows console said
-    → left ≡ Some input → IsCutBy console f said (all_lines left) old entries new → IsEndedBy console f said input entries old new
-ended_from console said f input left entries old new front h c =
-    ended_at console said f input entries old new front (subst (λ all. IsCutBy console f said all old entries new) (told input left h) c)
+pub ended_from : (console : UserConsole) (r : Rules) (cuts : List ℕ) (f : SessionFault) (input : List ℕ) (left : Option (List ℕ)) (entries : List Entry) (old new : Option (List ℕ))
+    → left ≡ Some input → IsCutBy console f (ByJournal r cuts) (all_lines left) old entries new → IsEndedBy console f (ByJournal r cuts) input entries old new
+ended_from console r cuts f input left entries old new h c =
+    ended_at console r cuts f input entries old new (subst (λ all. IsCutBy console f (ByJournal r cuts) all old entries new) (told input left h) c)
 
-pub begun_from : {console : UserConsole} (said : Said) (f : SessionFault) (input : List ℕ) (left : Option (List ℕ)) (entries : List Entry) (old new : Option (List ℕ)) → Grows console said
-    → left ≡ Some input → IsCutBy console f said (all_lines left) old entries new → IsBegun console said input entries old new
-begun_from {console} said f input left entries old new front h c =
-    begun_by said f input entries old new front (subst (λ all. IsCutBy console f said all old entries new) (told input left h) c)
+pub begun_from : {console : UserConsole} {r : Rules} {cuts : List ℕ} (f : SessionFault) (input : List ℕ) (left : Option (List ℕ)) (entries : List Entry) (old new : Option (List ℕ))
+    → left ≡ Some input → IsCutBy console f (ByJournal r cuts) (all_lines left) old entries new → IsBegun console (ByJournal r cuts) input entries old new
+begun_from {console} {r} {cuts} f input left entries old new h c =
+    begun_by f input entries old new (subst (λ all. IsCutBy console f (ByJournal r cuts) all old entries new) (told input left h) c)
 
 -- before anything is read
 pub read_none : (left : Option (List ℕ)) (reading : Reading) → reading ≡ record { pending = []; read = 0; ended = false } → HasRead left reading left
@@ -287,23 +421,23 @@ full_out count input before rest reading is h f =
     still false below read = refl
     still true below read = absurd (let less : reading.read < 67108864 = below refl in omega (arith, read))
 
-short_at : {console : UserConsole} (count : ℕ) (said : Said) (input : List ℕ) (before rest : Option (List ℕ)) (reading : Reading) (entries : List Entry) (old new : Option (List ℕ))
-    → IsCutAt console count said 1 (Some (lines_in (slice_split is_newline input))) old entries new → before ≡ Some (behind count input) → HasRead (Some input) reading rest
-    → (IsOut reading before rest → ⊥) → IsShort console said input rest entries old new
+short_at : {console : UserConsole} {telling : Telling} (count : ℕ) (input : List ℕ) (before rest : Option (List ℕ)) (reading : Reading) (entries : List Entry) (old new : Option (List ℕ))
+    → IsCutAt console count telling 1 (Some (lines_in (slice_split is_newline input))) old entries new → before ≡ Some (behind count input) → HasRead (Some input) reading rest
+    → (IsOut reading before rest → ⊥) → IsShort console telling input rest entries old new
 unfolding broken_at
-short_at {console} count said input before rest reading entries old new c is h never = inl (
-  broken_at said 1 input entries old new c.0,
+short_at {console} {telling} count input before rest reading entries old new c is h never = inl (
+  broken_at 1 input entries old new c.0,
   λ f. never (full_out count input before rest reading is h (subst (λ k. IsFullBehind k input rest) c.1 f)),
 )
 
-pub short_from : {console : UserConsole} (count : ℕ) (said : Said) (input : List ℕ) (left before rest : Option (List ℕ)) (reading : Reading) (entries : List Entry) (old new : Option (List ℕ)) → left ≡ Some input
-    → IsCutAt console count said 1 (all_lines left) old entries new → before ≡ option_map (behind count) left → HasRead left reading rest
-    → (IsOut reading before rest → ⊥) → IsShort console said input rest entries old new
-short_from {console} count said input left before rest reading entries old new h c is read never =
-    short_at count said input before rest reading entries old new
-    (subst (λ all. IsCutAt console count said 1 all old entries new) (told input left h) c) (is ∙ ap (option_map (behind count)) h)
+pub short_from : {console : UserConsole} {telling : Telling} (count : ℕ) (input : List ℕ) (left before rest : Option (List ℕ)) (reading : Reading) (entries : List Entry) (old new : Option (List ℕ)) → left ≡ Some input
+    → IsCutAt console count telling 1 (all_lines left) old entries new → before ≡ option_map (behind count) left → HasRead left reading rest
+    → (IsOut reading before rest → ⊥) → IsShort console telling input rest entries old new
+short_from {console} {telling} count input left before rest reading entries old new h c is read never =
+    short_at count input before rest reading entries old new
+    (subst (λ all. IsCutAt console count telling 1 all old entries new) (told input left h) c) (is ∙ ap (option_map (behind count)) h)
     (subst (λ all. HasRead all reading rest) h read) never
 
-pub short_opening : {console : UserConsole} (said : Said) (input : List ℕ) (rest : Option (List ℕ)) (entries : List Entry) (old new : Option (List ℕ)) → rest ≡ Some input → IsCutAtOpening console old entries new
-    → IsShort console said input rest entries old new
-short_opening {console} said input rest entries old new unread c = inr (opening_broken entries old new c, unread)
+pub short_opening : {console : UserConsole} (telling : Telling) (input : List ℕ) (rest : Option (List ℕ)) (entries : List Entry) (old new : Option (List ℕ)) → rest ≡ Some input → IsCutAtOpening console old entries new
+    → IsShort console telling input rest entries old new
+short_opening {console} telling input rest entries old new unread c = inr (inr (opening_broken entries old new c, unread))

@@ -1,13 +1,13 @@
 -- A text that is fed, and how serving it ends.
-use Rattle.std.specs.Prelude.{◌⊎◌, Result, Ok, Err, OnOk, OnErr, IfErr, ◌≢◌}
-use Rattle.std.specs.List.{concat, slice_get, AllByRecursion}
-use Rattle.std.proofs.Common.{ℕ, zero, suc, List, [], ◌∷◌, ◌++◌, ◌≡◌, ◌≤◌, length, drop, set, Option, Some, refl, sym, ap, ◌∙◌, subst, inl, inr, arith, append_assoc}
+use Rattle.std.specs.Prelude.{◌⊎◌, Bool, false, Result, Ok, Err, OnOk, ◌≢◌, if◌then◌else◌}
+use Rattle.std.specs.List.{slice_get, AllByRecursion}
+use Rattle.std.proofs.Common.{ℕ, zero, suc, List, [], ◌∷◌, ◌++◌, ◌≡◌, ◌≤◌, length, set, Option, Some, refl, sym, ap, ◌∙◌, subst, inl, inr, arith, append-nil, append_assoc}
 use Rattle.hpx_value.specs.declared.profile.Profile.{Profile}
 use Rattle.hpx_journal.specs.declared.entry.Name.{Name}
 use Rattle.hpx_journal.specs.declared.entry.Entry.{Entry}
 use Rattle.hpx_journal.specs.declared.entry.Event.TheVariants.{Line}
 use Rattle.hpx_journal.specs.Entries.{Rules}
-use Rattle.hpx_journal.specs.Pool.{NoneFails, prints_of}
+use Rattle.hpx_journal.specs.Pool.{NoneFails}
 use Rattle.hpx_journal.specs.Whole.{replayed}
 use Rattle.hpx_journal.specs.Weights.{HasRoom}
 use Rattle.hpx_journal.proofs.Ample.{legal_ample}
@@ -21,20 +21,25 @@ use Rattle.hpx_world.specs.declared.turns.Turned.TheVariants as turned
 use Rattle.hpx_world.specs.Places.{Places}
 use Rattle.hpx_world.specs.Promises.{KeepsPromises}
 use Rattle.hpx_world.specs.Quiet.{NoneRuns, IsAtRest}
-use Rattle.hpx_world.specs.Sound.{DoneAt}
+use Rattle.hpx_world.specs.Sound.{DoneAt, IsSound}
+use Rattle.hpx_hold.specs.Home.{GrowsAtHome}
 use Rattle.hpx_world.specs.Steps.{IsUnfed}
 use Rattle.hpx_world.specs.Turns.{Feeds as FeedsAt, next_name, DidFeed}
 use Rattle.app_console.specs.Console.{prompt}
-use Rattle.app_console.specs.Lines.{opening}
+use Rattle.app_console.specs.Lines.{is_long, opening}
+use Rattle.hpx_own.specs.Lines.{handled_as}
+use Rattle.hpx_own.specs.declared.lines.Handled.{Handled}
+use Rattle.hpx_own.specs.declared.lines.Handled.TheVariants.{Fed}
 use Rattle.hpx_top.specs.Acts.{act_of}
 use Rattle.hpx_top.specs.declared.consoles.UserConsole.{UserConsole}
 use Rattle.hpx_top.specs.declared.consoles.UserConsole.TheVariants.{Accumulator}
-use Rattle.hpx_top.specs.Texts.{Said, commands, mark_of}
+use Rattle.hpx_top.specs.Texts.{TooLong, Typed, commands, fed_lines, how, is_fed, mark_of, owns}
 use Rattle.hpx_top.specs.declared.session.SessionFault.{SessionFault}
 use Rattle.hpx_top.specs.declared.session.SessionFault.TheVariants.{Read, Write, Fabric, JournalFull, OutOfMemory, BadFrame, Strange, InputFull}
-use Rattle.hpx_top.specs.Reader.{Reading, TakesLine, lines_left}
-use Rattle.hpx_top.specs.Session.{rules, IsAmple, NoneRefused, AllGranted, AllDone, lines_fed, IsFed, FeedsAtMost, Feeds, Tells, WritesFront, IsServing, IsCutAtOpening, IsUnderWay, IsCutBy, IsLineEndedBy}
-use Rattle.hpx_top.proofs.SessionLemmas.{cut_line, cut_in, fed_once, under_line}
+use Rattle.hpx_top.specs.Reader.{Reading, lines_left}
+use Rattle.hpx_top.specs.Session.{rules, IsAmple, NoneRefused, AllGranted, AllDone, ByJournal, Telling, lines_fed, IsFed, FeedsAtMost, HasBegun, Feeds, IsServing, IsLeft, IsCutAtOpening, IsUnderWay, IsCutBy, IsLineEndedBy}
+use Rattle.hpx_top.proofs.LineLemmas.{block_line, none_fed}
+use Rattle.hpx_top.proofs.SessionLemmas.{IsNext, cut_in, cut_line, fed_once, under_line}
 
 -- ---- what is judged by the same rules
 
@@ -57,6 +62,20 @@ written_by text (turned.Finished f) nodes nodes' old new d = absurd d
 written_by text turned.Moved nodes nodes' old new d = absurd d
 written_by text turned.Empty nodes nodes' old new d = absurd d
 
+-- a text is fed at locality 0, by an entry of its own
+pub fed_home : (text : List ℕ) (t : Turned) (nodes nodes' : List Tables) (old new : List Entry) {profile : Profile} → IsSound act_of profile nodes old
+    → DidFeed text t nodes nodes' old new → GrowsAtHome old new
+fed_home text turned.Fed nodes nodes' old new {profile} sound d = record {
+  more = record { at = d.before.here; event = Line (next_name d.before) text } ∷ [];
+  is = d.does.writes.grows;
+  home = (((sound.stand 0 d.before d.there).here, tt), tt);
+}
+fed_home text (turned.Fired job) nodes nodes' old new {profile} sound d = absurd d
+fed_home text turned.Idle nodes nodes' old new {profile} sound d = absurd d
+fed_home text (turned.Finished f) nodes nodes' old new {profile} sound d = absurd d
+fed_home text turned.Moved nodes nodes' old new {profile} sound d = absurd d
+fed_home text turned.Empty nodes nodes' old new {profile} sound d = absurd d
+
 pub fed_then : (text : List ℕ) (t : Turned) (nodes nodes' : List Tables) (old mid new : List Entry) → DidFeed text t nodes nodes' old mid → IsUnfed mid new
     → IsFed text old new
 fed_then text t nodes nodes' old mid new d unfed =
@@ -70,7 +89,7 @@ fed_then text t nodes nodes' old mid new d unfed =
 
 -- ---- feeding hands no job out
 
-passive_runs : (nodes : List Tables) → AllByRecursion IsPassive nodes → NoneRuns nodes
+pub passive_runs : (nodes : List Tables) → AllByRecursion IsPassive nodes → NoneRuns nodes
 passive_runs [] h = tt
 passive_runs (t ∷ ts) h = ((h.0).running, passive_runs ts h.1)
 
@@ -89,6 +108,15 @@ fed_runs text nodes nodes' old new d none =
     let same : d.after.running ≡ d.before.running =
     ap (λ (x : Tables). x.running) d.does.waits in
     subst NoneRuns (sym d.others) (set_runs nodes 0 d.after none (same ∙ get_runs nodes 0 d.before none d.there))
+
+-- nor where some locality is not passive
+pub none_more : (text : List ℕ) (t : Turned) (nodes nodes' : List Tables) (old new : List Entry) → DidFeed text t nodes nodes' old new → NoneRuns nodes → NoneRuns nodes'
+none_more text turned.Fed nodes nodes' old new d none = fed_runs text nodes nodes' old new d none
+none_more text (turned.Fired job) nodes nodes' old new d none = absurd d
+none_more text turned.Idle nodes nodes' old new d none = absurd d
+none_more text (turned.Finished f) nodes nodes' old new d none = absurd d
+none_more text turned.Moved nodes nodes' old new d none = absurd d
+none_more text turned.Empty nodes nodes' old new d none = absurd d
 
 pub none_out : (text : List ℕ) (t : Turned) (nodes nodes' : List Tables) (old new : List Entry) → DidFeed text t nodes nodes' old new
     → AllByRecursion IsPassive nodes → NoneRuns nodes'
@@ -166,57 +194,78 @@ on_ok (Err e) P Q f p = tt
 
 -- ---- how serving a line ends
 
-abbrev failed : (T : Type 0) → SessionFault → Result T SessionFault
-failed T f = Err f
+-- a line that is not too long
+pub cut_text : {console : UserConsole} {r : Rules} {held : Bool} {cuts : List ℕ} {line : List ℕ} (held' : Bool) (cuts' : List ℕ) (f : SessionFault) (all : Option (List (List ℕ))) (before now mid later : Option (List ℕ))
+    (reading next : Reading) (left rest : Option (List ℕ)) (old new : List Entry) → IsServing console r all before reading left held cuts old now
+    → mid ≡ followed now prompt → IsNext line (lines_left reading left) (lines_left next rest) → is_long line ≡ false
+    → IsLineEndedBy console f r line held held' cuts cuts' old new mid later → IsCutBy console f (ByJournal r cuts') all before new later
+cut_text held' cuts' Write all before now mid later reading next left rest old new s prompted takes short e = under_line all before now mid later reading next left rest old new s prompted takes e
+cut_text held' cuts' Read all before now mid later reading next left rest old new s prompted takes short e = absurd e
+cut_text held' cuts' InputFull all before now mid later reading next left rest old new s prompted takes short e = absurd e
+cut_text held' cuts' Fabric all before now mid later reading next left rest old new s prompted takes short e = cut_in all before now mid later reading next left rest old new s prompted takes short e
+cut_text held' cuts' JournalFull all before now mid later reading next left rest old new s prompted takes short e = cut_in all before now mid later reading next left rest old new s prompted takes short e
+cut_text held' cuts' BadFrame all before now mid later reading next left rest old new s prompted takes short e = cut_in all before now mid later reading next left rest old new s prompted takes short e
+cut_text held' cuts' Strange all before now mid later reading next left rest old new s prompted takes short e = cut_in all before now mid later reading next left rest old new s prompted takes short e
+cut_text held' cuts' OutOfMemory all before now mid later reading next left rest old new s prompted takes short e = (cut_line all before now mid later reading next left rest old new s prompted takes e).0
 
--- feeding it failed
-pub ended_feed : (console : UserConsole) {T : Type 0} (f : SessionFault) (r : Rules) (line : List ℕ) (old new : List Entry) (before now : Option (List ℕ))
-    → (failed T f ≢ Err Read) × (failed T f ≢ Err Write) × (failed T f ≢ Err InputFull) → FeedsAtMost (mark_of console ∷ line) old new → now ≡ before
-    → IsLineEndedBy console f r line old new before now
-ended_feed console Read r line old new before now other fed same = absurd (other.0 refl)
-ended_feed console Write r line old new before now other fed same = absurd (other.1 refl)
-ended_feed console InputFull r line old new before now other fed same = absurd (other.2 refl)
-ended_feed console Fabric r line old new before now other fed same = (fed, same)
-ended_feed console JournalFull r line old new before now other fed same = (fed, same)
-ended_feed console OutOfMemory r line old new before now other fed same = (fed, same)
-ended_feed console BadFrame r line old new before now other fed same = (fed, same)
-ended_feed console Strange r line old new before now other fed same = (fed, same)
+-- a line that is too long
+pub cut_long : {console : UserConsole} {r : Rules} {held : Bool} {cuts : List ℕ} {line : List ℕ} (held' : Bool) (cuts' : List ℕ) (f : SessionFault) (Q : Type 0) (all : Option (List (List ℕ))) (before now mid later : Option (List ℕ))
+    (reading next : Reading) (left rest : Option (List ℕ)) (old new : List Entry) → IsServing console r all before reading left held cuts old now
+    → mid ≡ followed now prompt → IsNext line (lines_left reading left) (lines_left next rest) → (f ≡ OutOfMemory) ⊎ ((f ≡ Write) × Q)
+    → IsLineEndedBy console f r line held held' cuts cuts' old new mid later → IsCutBy console f (ByJournal r cuts') all before new later
+cut_long {console} {r} {held} {cuts} {line} held' cuts' f Q all before now mid later reading next left rest old new s prompted takes (inl memory) e =
+    subst (λ g. IsCutBy console g (ByJournal r cuts') all before new later) (sym memory)
+    (cut_line all before now mid later reading next left rest old new s prompted takes
+    (subst (λ g. IsLineEndedBy console g r line held held' cuts cuts' old new mid later) memory e)).0
+cut_long {console} {r} {held} {cuts} {line} held' cuts' f Q all before now mid later reading next left rest old new s prompted takes (inr write) e =
+    subst (λ g. IsCutBy console g (ByJournal r cuts') all before new later) (sym write.0)
+    (under_line all before now mid later reading next left rest old new s prompted takes
+    (subst (λ g. IsLineEndedBy console g r line held held' cuts cuts' old new mid later) write.0 e))
 
--- writing what it prints failed
-pub ended_show : (console : UserConsole) {T : Type 0} (result : Result T SessionFault) (Q : Type 0) (r : Rules) (line : List ℕ) (old new : List Entry) (before now : Option (List ℕ))
-    → IfErr result (λ f. (f ≡ Write) × Q) → OnErr result (WritesFront (concat (prints_of (drop (length old) new))) before now) → Feeds r (mark_of console ∷ line) old new
-    → IfErr result (λ f. IsLineEndedBy console f r line old new before now)
-ended_show console (Ok x) Q r line old new before now cause w fed = tt
-ended_show console (Err f) Q r line old new before now cause w fed = subst (λ f. IsLineEndedBy console f r line old new before now) (sym cause.0) (fed, w)
+-- what was begun of a line, and nothing was written
+pub line_left : {console : UserConsole} {line : List ℕ} {cuts cuts' : List ℕ} (r : Rules) (held held' : Bool) (f : SessionFault) (old new : List Entry) (before now : Option (List ℕ))
+    → (f ≡ Fabric) ⊎ (f ≡ JournalFull) ⊎ (f ≡ OutOfMemory) → IsLeft console line cuts cuts' old new before now
+    → IsLineEndedBy console f r line held held' cuts cuts' old new before now
+line_left {console} {line} {cuts} {cuts'} r held held' f old new before now (inl e) l =
+    subst (λ g. IsLineEndedBy console g r line held held' cuts cuts' old new before now) (sym e) l
+line_left {console} {line} {cuts} {cuts'} r held held' f old new before now (inr (inl e)) l =
+    subst (λ g. IsLineEndedBy console g r line held held' cuts cuts' old new before now) (sym e) l
+line_left {console} {line} {cuts} {cuts'} r held held' f old new before now (inr (inr e)) l =
+    subst (λ g. IsLineEndedBy console g r line held held' cuts cuts' old new before now) (sym e) l
+
+-- nothing was begun
+pub begun_none : {console : UserConsole} {line : List ℕ} (entries : List Entry) → HasBegun console line entries entries
+begun_none {console} {line} entries = record { more = []; is = sym (append-nil entries); once = inl refl }
+
+-- nothing was fed
+pub begun_unfed : {console : UserConsole} {line : List ℕ} {old new : List Entry} → IsUnfed old new → HasBegun console line old new
+begun_unfed {console} {line} {old} {new} u = record { more = u.more; is = u.is; once = inl (none_fed u.more u.unfed) }
+
+-- how a line that is not too long is handled
+pub how_is : (console : UserConsole) (line : List ℕ) → is_long line ≡ false → (h : Handled) → handled_as (owns console) line ≡ h → how console line ≡ Typed h
+how_is console line short h is = ap (λ b. if b then TooLong else Typed (handled_as (owns console) line)) short ∙ ap (λ x. Typed x) is
+
+-- a line was fed
+pub begun_fed_line : {console : UserConsole} {line : List ℕ} {old new : List Entry} → is_long line ≡ false → handled_as (owns console) line ≡ Fed
+    → IsFed (mark_of console ∷ line) old new → HasBegun console line old new
+begun_fed_line {console} {line} {old} {new} short fed f = record {
+  more = f.block;
+  is = f.is;
+  once = inr (block_line (mark_of console ∷ line) f.block f.begins ∙ sym (line_fed console line short fed));
+}
+  where
+    line_fed : (console : UserConsole) (line : List ℕ) → is_long line ≡ false → handled_as (owns console) line ≡ Fed → fed_lines console (line ∷ []) ≡ (mark_of console ∷ line) ∷ []
+    line_fed console line short fed = ap (λ h. if is_fed h then (mark_of console ∷ line) ∷ [] else []) (how_is console line short Fed fed)
 
 -- ---- how a session ends
 
-pub cut_write : {console : UserConsole} (f : SessionFault) (said : Said) (all : Option (List (List ℕ))) (before now : Option (List ℕ)) (entries : List Entry) → f ≡ Write
-    → IsUnderWay console said all before entries now → IsCutBy console f said all before entries now
-cut_write {console} f said all before now entries is u = subst (λ f. IsCutBy console f said all before entries now) (sym is) u
+pub cut_write : {console : UserConsole} (f : SessionFault) (telling : Telling) (all : Option (List (List ℕ))) (before now : Option (List ℕ)) (entries : List Entry) → f ≡ Write
+    → IsUnderWay console telling all before entries now → IsCutBy console f telling all before entries now
+cut_write {console} f telling all before now entries is u = subst (λ f. IsCutBy console f telling all before entries now) (sym is) u
 
 -- the accumulator was not made
 pub cut_opening : {console : UserConsole} (before now : Option (List ℕ)) (old new : List Entry) → console ≡ Accumulator → old ≡ [] → FeedsAtMost opening old new → now ≡ followed before (commands console)
     → IsCutAtOpening console before new now
-cut_opening {console} before now old new only empty (inl same) held = record { only = only; journal = inl (ap lines_fed (same ∙ empty)); held = held }
+cut_opening {console} before now old new only empty (inl same) held = record { only = only; journal = inl (ap lines_fed (same ∙ empty)); written = held }
 cut_opening {console} before now old new only empty (inr f) held =
-    record { only = only; journal = inr (fed_once opening old new f ∙ ap (λ es. lines_fed es ++ opening ∷ []) empty); held = held }
-
-pub cut_text : {console : UserConsole} (f : SessionFault) (n : ℕ) (p : Profile) (said : Said) (all : Option (List (List ℕ))) (before now mid later : Option (List ℕ)) (reading next : Reading)
-    (left rest : Option (List ℕ)) (old new : List Entry) (line : List ℕ) → 1 ≤ n → n ≤ 64 → IsServing console (rules_of act_of n p) all before reading left old now
-    → mid ≡ followed now prompt → TakesLine line (lines_left reading left) (lines_left next rest)
-    → IsLineEndedBy console f (rules_of act_of n p) line old new mid later → Tells console n new said → IsCutBy console f said all before new later
-cut_text {console} Write n p said all before now mid later reading next left rest old new line some few s prompted takes e tells =
-    under_line n p said all before now mid later reading next left rest old new line some few s prompted takes e.0 e.1 tells
-cut_text {console} Read n p said all before now mid later reading next left rest old new line some few s prompted takes e tells = absurd e
-cut_text {console} InputFull n p said all before now mid later reading next left rest old new line some few s prompted takes e tells = absurd e
-cut_text {console} Fabric n p said all before now mid later reading next left rest old new line some few s prompted takes e tells =
-    cut_in n p said all before now later reading next left rest old new line some few s (e.1 ∙ prompted) takes e.0 tells
-cut_text {console} JournalFull n p said all before now mid later reading next left rest old new line some few s prompted takes e tells =
-    cut_in n p said all before now later reading next left rest old new line some few s (e.1 ∙ prompted) takes e.0 tells
-cut_text {console} BadFrame n p said all before now mid later reading next left rest old new line some few s prompted takes e tells =
-    cut_in n p said all before now later reading next left rest old new line some few s (e.1 ∙ prompted) takes e.0 tells
-cut_text {console} Strange n p said all before now mid later reading next left rest old new line some few s prompted takes e tells =
-    cut_in n p said all before now later reading next left rest old new line some few s (e.1 ∙ prompted) takes e.0 tells
-cut_text {console} OutOfMemory n p said all before now mid later reading next left rest old new line some few s prompted takes e tells =
-    cut_line n p said all before now later reading next left rest old new line some few s (e.1 ∙ prompted) takes e.0 tells
+    record { only = only; journal = inr (fed_once opening old new f ∙ ap (λ es. lines_fed es ++ opening ∷ []) empty); written = held }

@@ -3,12 +3,15 @@ pub mod Carried
 pub mod PlainLemmas
 pub mod ReaderLemmas
 pub mod LineLemmas
+pub mod PartLemmas
 pub mod SessionLemmas
 pub mod FeedLemmas
 pub mod ComputeLemmas
 pub mod TaskLemmas
 pub mod ShowLemmas
+pub mod TypedLemmas
 pub mod EndLemmas
+pub mod OneSpaceLemmas
 pub mod RunLemmas
 pub mod DoneLemmas
 pub mod WorldFaults

@@ -1,4 +1,4 @@
--- What is said of faults, said of statuses.
+-- What is telling of faults, telling of statuses.
 use Rattle.std.specs.Prelude.{Result, Ok, Err, OnOk, IfErr, IfSome, ⊤, ◌≢◌, ◌==◌, if◌then◌else◌}
 use Rattle.std.proofs.Common.{ℕ, List, [], length, ◌≡◌, ◌≤◌, ◌+◌, ◌⊎◌, Option, Some, None, refl, sym, ap, subst, ◌∙◌, inl, inr, arith}
 use Rattle.hpx_journal.specs.Entries.{Frame}
@@ -18,9 +18,8 @@ use Rattle.hpx_top.specs.declared.session.SessionFault.{SessionFault}
 use Rattle.hpx_top.specs.declared.session.SessionFault.TheVariants.{Read, Write, Fabric, JournalFull, OutOfMemory, BadFrame, Strange, InputFull}
 use Rattle.hpx_top.specs.Ends.{IsWhole, IsBegun, IsShort, IsEndedBy, IsReadFrom, IsReadUp, IsReadOn, IsInputFull}
 use Rattle.hpx_top.specs.Runs.{Ports, HasCause, HasEnded, HasServed, IsLawful, ports_of}
-use Rattle.hpx_top.specs.Session.{rules, IsRested, NoneRefused}
+use Rattle.hpx_top.specs.Session.{rules, IsRested, NoneRefused, Telling}
 use Rattle.hpx_top.specs.declared.consoles.UserConsole.{UserConsole}
-use Rattle.hpx_top.specs.Texts.{Said}
 use Rattle.hpx_top.specs.Statuses.{IsStatus, status_after}
 use Rattle.hpx_top.proofs.EndLemmas.{begun_nothing, read_from_none}
 use Rattle.hpx_top.proofs.FeedLemmas.{all_granted, all_done, none_fails, on_ok}
@@ -132,20 +131,20 @@ no_status r n never s = never (at r n s)
 
 -- ---- texts
 
-pub served_of : {console : UserConsole} (said : Said) (r : Result ⊤ SessionFault) (w : Places) (input : List ℕ) (x z : Ports)
-    → IsReadFrom input z.left x.taken z.taken → OnOk r (IsWhole console said input w.journal.entries x.text z.text) → OnOk r (IsReadUp input z.left)
-    → IsBegun console said input w.journal.entries x.text z.text → IfErr r (λ f. IsEndedBy console f said input w.journal.entries x.text z.text)
-    → (r ≡ Err OutOfMemory → IsShort console said input z.left w.journal.entries x.text z.text) → (r ≡ Err Read → (count : ℕ) × IsReadOn count input z.left)
-    → (r ≡ Err InputFull → IsInputFull input z.left) → HasServed console said (status_after r) input (Some w) x z
-served_of {console} said r w input x z reads whole read_up begun ended short read_on full =
-    let P : SessionFault → Type 0 = λ f. IsEndedBy console f said input w.journal.entries x.text z.text in
+pub served_of : {console : UserConsole} (telling : Telling) (r : Result ⊤ SessionFault) (w : Places) (input : List ℕ) (x z : Ports)
+    → IsReadFrom input z.left x.taken z.taken → OnOk r (IsWhole console telling input w.journal.entries x.text z.text) → OnOk r (IsReadUp input z.left)
+    → IsBegun console telling input w.journal.entries x.text z.text → IfErr r (λ f. IsEndedBy console f telling input w.journal.entries x.text z.text)
+    → (r ≡ Err OutOfMemory → IsShort console telling input z.left w.journal.entries x.text z.text) → (r ≡ Err Read → (count : ℕ) × IsReadOn count input z.left)
+    → (r ≡ Err InputFull → IsInputFull input z.left) → HasServed console telling (status_after r) input (Some w) x z
+served_of {console} telling r w input x z reads whole read_up begun ended short read_on full =
+    let P : SessionFault → Type 0 = λ f. IsEndedBy console f telling input w.journal.entries x.text z.text in
     record {
       reads = reads;
       whole = λ s. ended_well r _ s whole;
       read_up = λ s. ended_well r _ s read_up;
       begun = begun;
       between_lines = λ s. between s (λ two. by_status r P 2 two ended) (λ nine. by_status r P 9 nine ended);
-      in_a_line = λ s. between s (λ four. by_status r P 4 four ended) (λ five. by_status r P 5 five ended);
+      refused = λ s. between s (λ four. by_status r P 4 four ended) (λ five. by_status r P 5 five ended);
       short = λ s. short (at r 6 s);
       read_on = λ s. read_on (at r 2 s);
       full = λ s. full (at r 9 s);
@@ -156,15 +155,15 @@ served_of {console} said r w input x z reads whole read_up begun ended short rea
     between (inr b) f g = g b
 
 -- without a world, for want of memory, nothing was read or written
-pub served_none : {console : UserConsole} (said : Said) (r : Result ⊤ SessionFault) (input : List ℕ) (x : Ports) → r ≡ Err OutOfMemory → x.left ≡ Some input
-    → HasServed console said (status_after r) input None x x
-served_none {console} said r input x e h = subst (λ q. HasServed console said (status_after q) input None x x) (sym e) (record {
+pub served_none : {console : UserConsole} (telling : Telling) (r : Result ⊤ SessionFault) (input : List ℕ) (x : Ports) → r ≡ Err OutOfMemory → x.left ≡ Some input
+    → HasServed console telling (status_after r) input None x x
+served_none {console} telling r input x e h = subst (λ q. HasServed console telling (status_after q) input None x x) (sym e) (record {
   reads = read_from_none input x.left x.taken h;
   whole = λ s. absurd (omega arith);
   read_up = λ s. absurd (omega arith);
-  begun = begun_nothing said input [] x.text x.text refl refl;
+  begun = begun_nothing telling input [] x.text x.text refl refl;
   between_lines = λ s. absurd (neither 6 2 9 (omega arith) (omega arith) s);
-  in_a_line = λ s. absurd (neither 6 4 5 (omega arith) (omega arith) s);
+  refused = λ s. absurd (neither 6 4 5 (omega arith) (omega arith) s);
   short = λ s. tt;
   read_on = λ s. absurd (omega arith);
   full = λ s. absurd (omega arith);

@@ -1,12 +1,15 @@
 -- What goes to a sink, piece after piece.
-use Rattle.std.specs.Prelude.{Result, Ok, Err, OnOk, OnErr, IfOk, IfErr}
+use Rattle.std.specs.Prelude.{Result, Ok, Err, OnOk, OnErr, IfOk, IfErr, ◌≢◌}
 use Rattle.std.specs.Result.{IsErrAnd}
-use Rattle.std.specs.List.{concat, slice_get}
+use Rattle.std.specs.List.{concat, flat_map, slice_get}
 use Rattle.std.proofs.Common.{ℕ, zero, suc, List, [], ◌∷◌, ◌++◌, ◌≡◌, ◌+◌, ◌<◌, ◌≤◌, length, map, take, drop, Option, Some, refl, sym, ap, ◌∙◌, subst, arith, append-nil, append_assoc}
 use Rattle.std.proofs.lemmas.List.{take-append-drop, drop_all}
+use Rattle.std.proofs.lemmas.List.Concat.{flat_map-cons}
 use Rattle.std.proofs.lemmas.List.Folds.{concat-append}
 use Rattle.hpx_journal.specs.declared.entry.Entry.{Entry}
 use Rattle.hpx_journal.specs.Pool.{prints_by, prints_of}
+use Rattle.hpx_own.specs.Texts.{audit_text, line_text}
+use Rattle.hpx_world.specs.declared.audit.AuditLine.{AuditLine}
 use Rattle.hpx_ports.specs.Told.{followed}
 use Rattle.hpx_ports.specs.Bytes.{WritesPart}
 use Rattle.hpx_top.specs.Session.{WritesFront, WritesUpTo}
@@ -27,6 +30,11 @@ nothing_said held = record { front = []; begins = record { later = []; is = refl
 pub any_err : {T E : Type 0} (r : Result T E) (P : Type 0) → P → OnErr r P
 any_err (Ok x) P h = tt
 any_err (Err e) P h = h
+
+-- what holds of whatever value
+pub any_ok : {T E : Type 0} (r : Result T E) (P : Type 0) → P → OnOk r P
+any_ok (Ok x) P h = h
+any_ok (Err e) P h = tt
 
 -- what holds of the error that is handed on
 pub if_err_from : {T E : Type 0} (r : Result T E) (e : E) (Q : E → Type 0) → IsErrAnd r (λ y. y ≡ e) → Q e → IfErr r Q
@@ -166,3 +174,16 @@ front_more text more old new w = record {
   begins = record { later = w.begins.later ++ more; is = sym (append_assoc w.front w.begins.later more) ∙ ap (λ t. t ++ more) w.begins.is };
   held = w.held;
 }
+
+-- ---- the lines of an audit
+
+flat : {X : Type 0} (f : X → List ℕ) (xs : List X) → flat_map f xs ≡ concat (map f xs)
+flat f [] = refl
+flat f (x ∷ xs) = flat_map-cons f x xs ∙ ap (λ t. f x ++ t) (flat f xs)
+
+audit_some : (lines : List AuditLine) → lines ≢ [] → concat (map line_text lines) ≡ audit_text lines
+audit_some [] some = absurd (some refl)
+audit_some (x ∷ lines) some = sym (flat line_text (x ∷ lines))
+
+pub audit_start : (lines : List AuditLine) (held : Option (List ℕ)) → lines ≢ [] → WritesUpTo (concat (map line_text lines)) (audit_text lines) held held
+audit_start lines held some = record { front = []; whole = audit_some lines some; held = sym (followed_nothing held) }

@@ -1,43 +1,58 @@
--- What a run has done where it ends, over the bytes of its input, by what is said for its lines.
+-- What a run has done where it ends, over the bytes of its input, by what its lines are told by.
 use Rattle.std.specs.Prelude.{ℕ, true, false, Option, Some, List, [], ◌∷◌, ◌++◌, ◌≡◌, ◌+◌, ◌<◌, ◌≤◌, ◌⊎◌, length}
 use Rattle.std.specs.List.{list_any, slice_split}
 use Rattle.hpx_journal.specs.declared.entry.Entry.{Entry}
 use Rattle.hpx_ports.specs.Told.{followed}
 use Rattle.hpx_top.specs.declared.session.SessionFault.{SessionFault}
 use Rattle.hpx_top.specs.declared.session.SessionFault.TheVariants.{Read, Write, OutOfMemory, InputFull}
+use Rattle.app_console.specs.Console.{prompt}
 use Rattle.app_console.specs.Lines.{IsFront, is_long, is_quit, is_newline, IsPiece, lines_in, lines_of, quits, opening}
 use Rattle.hpx_top.specs.declared.consoles.UserConsole.{UserConsole}
 use Rattle.hpx_top.specs.declared.consoles.UserConsole.TheVariants.{Accumulator}
-use Rattle.hpx_top.specs.Texts.{Said, commands, fed, text_by}
+use Rattle.hpx_top.specs.Texts.{commands, fed, held_behind}
 use Rattle.hpx_top.specs.Reader.{behind}
-use Rattle.hpx_top.specs.Session.{lines_fed, HasFed, AllButOne}
+use Rattle.hpx_top.specs.Session.{Telling, TellsAll, TellsUp, lines_fed, HasFed, AllButOne, IsTheirs, IsOfAll}
 
--- the lines of the input were fed, up to its end or to `quit`, and the whole text was written
-pub record IsWhole (console : UserConsole) (said : Said) (input : List ℕ) (entries : List Entry) (old new : Option (List ℕ)) : Type 0 where
+-- the lines of the input were handled, up to its end or to `quit`, and the whole text was written
+pub record IsWhole (console : UserConsole) (telling : Telling) (input : List ℕ) (entries : List Entry) (old new : Option (List ℕ)) : Type 0 where
   pub lines : lines_fed entries ≡ fed console (lines_of input)
-  pub text : new ≡ followed old (text_by console said (lines_of input))
+  pub text : List ℕ
+  pub told : TellsUp console telling entries (lines_of input) text
+  pub is : new ≡ followed old (commands console ++ text)
 
 -- The first lines of the input were handled, and the text is theirs, with the prompt behind it. Of the next lines at most so
--- many were fed.
-pub record IsBrokenOff (console : UserConsole) (said : Said) (most : ℕ) (input : List ℕ) (entries : List Entry) (old new : Option (List ℕ)) : Type 0 where
+-- many were begun.
+pub record IsBrokenOff (console : UserConsole) (telling : Telling) (most : ℕ) (input : List ℕ) (entries : List Entry) (old new : Option (List ℕ)) : Type 0 where
   pub handled : List (List ℕ)
   pub next : List (List ℕ)
   pub later : List (List ℕ)
   pub first : lines_of input ≡ (handled ++ next) ++ later
   pub few : length next ≤ most
   pub lines : lines_fed entries ≡ fed console (handled ++ next)
-  pub text : new ≡ followed old (text_by console said handled)
+  pub text : List ℕ
+  pub told : TellsAll console telling entries handled text
+  pub is : new ≡ followed old (commands console ++ (text ++ prompt))
 
 -- The first lines of the input were handled, and the text is theirs, with the prompt behind it. The next line, which is not
--- too long, was to be fed, or was fed and what follows from it was to be done.
-pub record IsBrokenIn (console : UserConsole) (said : Said) (input : List ℕ) (entries : List Entry) (old new : Option (List ℕ)) : Type 0 where
+-- too long, was to be handled, or was begun and what follows from it was to be done.
+pub record IsBrokenIn (console : UserConsole) (telling : Telling) (input : List ℕ) (entries : List Entry) (old new : Option (List ℕ)) : Type 0 where
   pub handled : List (List ℕ)
   pub line : List ℕ
   pub later : List (List ℕ)
   pub first : lines_of input ≡ handled ++ line ∷ later
   pub short : is_long line ≡ false
   pub lines : (lines_fed entries ≡ fed console handled) ⊎ (lines_fed entries ≡ fed console (handled ++ line ∷ []))
-  pub text : new ≡ followed old (text_by console said handled)
+  pub text : List ℕ
+  pub told : TellsAll console telling entries handled text
+  pub is : new ≡ followed old (commands console ++ (text ++ prompt))
+
+-- All lines of the input were handled, and the text is theirs, with the prompt behind it. What was held back was to be let go.
+pub record IsBrokenAtEnd (console : UserConsole) (telling : Telling) (input : List ℕ) (entries : List Entry) (old new : Option (List ℕ)) : Type 0 where
+  pub held : held_behind console false (lines_of input) ≡ true
+  pub lines : lines_fed entries ≡ fed console (lines_of input)
+  pub text : List ℕ
+  pub told : TellsAll console telling entries (lines_of input) text
+  pub is : new ≡ followed old (commands console ++ (text ++ prompt))
 
 -- Behind the first text the accumulator was to be made: the line for it was to be fed, or was fed and what follows from it was to
 -- be done. No line of the input was handled. Only the accumulator's console makes one.
@@ -46,18 +61,21 @@ pub record IsBrokenAtOpening (console : UserConsole) (entries : List Entry) (old
   pub lines : (lines_fed entries ≡ []) ⊎ (lines_fed entries ≡ opening ∷ [])
   pub text : new ≡ followed old (commands console)
 
--- The first lines of the input were fed. What was written begins the whole text, and comes of no line behind them. It is whole for
--- all of them but the last, or nothing was fed and none was handled.
-pub record IsBegun (console : UserConsole) (said : Said) (input : List ℕ) (entries : List Entry) (old new : Option (List ℕ)) : Type 0 where
+-- The first lines of the input were handled, and of the next at most one was begun. What was written is a front of their text, whole for
+-- all of them but the last; or none was handled.
+pub record IsBegun (console : UserConsole) (telling : Telling) (input : List ℕ) (entries : List Entry) (old new : Option (List ℕ)) : Type 0 where
   pub handled : List (List ℕ)
+  pub next : List (List ℕ)
   pub later : List (List ℕ)
-  pub first : lines_of input ≡ handled ++ later
-  pub lines : HasFed console handled entries
+  pub first : lines_of input ≡ (handled ++ next) ++ later
+  pub few : length next ≤ 1
+  pub lines : HasFed console (handled ++ next) entries
   pub text : List ℕ
   pub is : new ≡ followed old text
-  pub theirs : IsFront text (text_by console said handled)
-  pub begins : IsFront text (text_by console said (lines_of input))
-  pub almost : ((lines_fed entries ≡ []) × (handled ≡ [])) ⊎ AllButOne console said handled text
+  pub theirs : IsTheirs console telling entries handled text
+      ⊎ (IsOfAll console telling entries handled text × (next ≡ []) × (later ≡ []))
+      ⊎ ((handled ≡ []) × IsFront text (commands console))
+  pub almost : AllButOne console telling entries handled text ⊎ (handled ≡ [])
 
 -- The first bytes of the input were read, as many as the count of the source rose by, and the others are left.
 pub record IsReadFrom (input : List ℕ) (left : Option (List ℕ)) (before after : ℕ) : Type 0 where
@@ -99,16 +117,23 @@ pub record IsFullBehind (lines : ℕ) (input : List ℕ) (left : Option (List �
   pub behind_is : behind lines input ≡ piece ++ rest
   pub no_line : IsPiece piece
 
--- Memory was wanting at a line, or as the accumulator was made, before anything was read; not where the input is full behind the lines
--- that were handled.
-abbrev pub IsShort : UserConsole → Said → List ℕ → Option (List ℕ) → List Entry → Option (List ℕ) → Option (List ℕ) → Type 0
-IsShort console said input left entries old new =
-    ((b : IsBrokenOff console said 1 input entries old new) × (IsFullBehind (length b.handled) input left → ⊥)) ⊎ (IsBrokenAtOpening console entries old new × (left ≡ Some input))
+-- Memory was wanting at a line, not where the input is full behind the lines that were handled; or behind all lines, for what was held
+-- back; or as the accumulator was made, before anything was read.
+abbrev pub IsShort : UserConsole → Telling → List ℕ → Option (List ℕ) → List Entry → Option (List ℕ) → Option (List ℕ) → Type 0
+IsShort console telling input left entries old new =
+    ((b : IsBrokenOff console telling 1 input entries old new) × (IsFullBehind (length b.handled) input left → ⊥))
+    ⊎ IsBrokenAtEnd console telling input entries old new ⊎ (IsBrokenAtOpening console entries old new × (left ≡ Some input))
 
--- how a session was broken off: at a write anywhere, otherwise behind a prompt, or in the line behind it, or where the accumulator is made
-abbrev pub IsEndedBy : UserConsole → SessionFault → Said → List ℕ → List Entry → Option (List ℕ) → Option (List ℕ) → Type 0
-IsEndedBy console Write said input entries old new = IsBegun console said input entries old new
-IsEndedBy console Read said input entries old new = IsBrokenOff console said 0 input entries old new
-IsEndedBy console InputFull said input entries old new = IsBrokenOff console said 0 input entries old new
-IsEndedBy console OutOfMemory said input entries old new = IsBrokenOff console said 1 input entries old new ⊎ IsBrokenAtOpening console entries old new
-IsEndedBy console _ said input entries old new = IsBrokenIn console said input entries old new ⊎ IsBrokenAtOpening console entries old new
+-- how a session was broken off where a turn was refused: in a line, behind all lines, or where the accumulator is made
+abbrev pub IsBroken : UserConsole → Telling → List ℕ → List Entry → Option (List ℕ) → Option (List ℕ) → Type 0
+IsBroken console telling input entries old new =
+    IsBrokenIn console telling input entries old new ⊎ IsBrokenAtEnd console telling input entries old new ⊎ IsBrokenAtOpening console entries old new
+
+-- how a session was broken off: at a write anywhere, otherwise behind a prompt, or where a turn was refused; and for want of memory
+abbrev pub IsEndedBy : UserConsole → SessionFault → Telling → List ℕ → List Entry → Option (List ℕ) → Option (List ℕ) → Type 0
+IsEndedBy console Write telling input entries old new = IsBegun console telling input entries old new
+IsEndedBy console Read telling input entries old new = IsBrokenOff console telling 0 input entries old new
+IsEndedBy console InputFull telling input entries old new = IsBrokenOff console telling 0 input entries old new
+IsEndedBy console OutOfMemory telling input entries old new =
+    IsBrokenOff console telling 1 input entries old new ⊎ IsBrokenAtEnd console telling input entries old new ⊎ IsBrokenAtOpening console entries old new
+IsEndedBy console _ telling input entries old new = IsBroken console telling input entries old new

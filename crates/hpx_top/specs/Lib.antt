@@ -4,6 +4,8 @@ pub mod Usage
 pub mod Acts
 pub mod ActLaws
 pub mod Texts
+pub mod Parts
+pub mod Owned
 pub mod Session
 pub mod Ends
 pub mod Statuses

@@ -1,10 +1,12 @@
 -- What a run leaves: its world, and what it did with its ports, by the status that it ends with.
-use Rattle.std.specs.Prelude.{ℕ, Option, Some, IfSome, List, length, ◌≡◌, ◌≢◌, ◌⊎◌, ◌+◌, ◌<◌, ◌≤◌}
+use Rattle.std.specs.Prelude.{ℕ, false, Option, Some, IfSome, List, [], length, ◌≡◌, ◌≢◌, ◌⊎◌, ◌++◌, ◌+◌, ◌<◌, ◌≤◌}
+use Rattle.std.specs.List.{list_any}
 use Rattle.hpx_value.specs.declared.profile.Profile.{Profile}
 use Rattle.hpx_journal.specs.Entries.{Frame}
 use Rattle.hpx_journal.specs.Pool.{prints_of}
 use Rattle.hpx_journal.specs.Weights.{HasRoom}
 use Rattle.hpx_steps.specs.Limits.{IsWithin}
+use Rattle.hpx_steps.specs.Rest.{rules_of}
 use Rattle.hpx_ports.specs.declared.fabric.Wire.{Wire}
 use Rattle.hpx_ports.specs.Faults.{Rose}
 use Rattle.hpx_ports.specs.Told.{followed}
@@ -13,15 +15,18 @@ use Rattle.hpx_world.specs.Away.{IsCarrying}
 use Rattle.hpx_world.specs.Places.{Places}
 use Rattle.hpx_world.specs.Quiet.{IsQuiet}
 use Rattle.hpx_world.specs.Promises.{KeepsPromises}
+use Rattle.app_console.specs.Console.{prompt}
+use Rattle.app_console.specs.Lines.{IsFront, lines_of}
+use Rattle.hpx_top.specs.Acts.{act_of}
 use Rattle.hpx_top.specs.declared.task.Task.{Task}
 use Rattle.hpx_top.specs.declared.task.Task.TheVariants.{Console}
 use Rattle.hpx_top.specs.declared.consoles.UserConsole.{UserConsole}
 use Rattle.hpx_top.specs.Computed.{HasComputed, task_line, task_texts}
-use Rattle.hpx_top.specs.Ends.{IsWhole, IsBrokenOff, IsBrokenIn, IsBrokenAtOpening, IsBegun, IsShort, IsReadFrom, IsReadUp, IsReadOn, IsInputFull}
-use Rattle.hpx_top.specs.Session.{rules, entries_in, IsAmple, NoneRefused, AllGranted, AllDone, IsRested, WritesFront, shown_in}
+use Rattle.hpx_top.specs.Ends.{IsWhole, IsBroken, IsBrokenOff, IsBegun, IsShort, IsReadFrom, IsReadUp, IsReadOn, IsInputFull}
+use Rattle.hpx_top.specs.Session.{rules, entries_in, IsAmple, NoneRefused, AllGranted, AllDone, IsRested, Telling, ByJournal, ByOneSpace, WritesFront}
 use Rattle.hpx_top.specs.declared.task.Setup.{Setup}
 use Rattle.hpx_top.specs.Printed.{HasCounted}
-use Rattle.hpx_top.specs.Texts.{Said, lines_text}
+use Rattle.hpx_top.specs.Texts.{commands, how, is_own, lines_text}
 
 -- ---- ports
 
@@ -74,41 +79,51 @@ pub record HasCause (status : ℕ) (world : Option Places) (x z : Ports) : Type 
 
 -- ---- texts
 
--- what a console read and wrote of this input, by what is said for its lines
-pub record HasServed (console : UserConsole) (said : Said) (status : ℕ) (input : List ℕ) (world : Option Places) (x z : Ports) : Type 0 where
+-- what a console read and wrote of this input, by what its lines are told by
+pub record HasServed (console : UserConsole) (telling : Telling) (status : ℕ) (input : List ℕ) (world : Option Places) (x z : Ports) : Type 0 where
   pub reads : IsReadFrom input z.left x.taken z.taken
-  pub whole : status ≡ 0 → IsWhole console said input (entries_in world) x.text z.text
+  pub whole : status ≡ 0 → IsWhole console telling input (entries_in world) x.text z.text
   pub read_up : status ≡ 0 → IsReadUp input z.left
-  pub begun : IsBegun console said input (entries_in world) x.text z.text
-  pub between_lines : (status ≡ 2) ⊎ (status ≡ 9) → IsBrokenOff console said 0 input (entries_in world) x.text z.text
-  pub in_a_line : (status ≡ 4) ⊎ (status ≡ 5) → IsBrokenIn console said input (entries_in world) x.text z.text ⊎ IsBrokenAtOpening console (entries_in world) x.text z.text
-  pub short : status ≡ 6 → IfSome world (λ w. IsShort console said input z.left w.journal.entries x.text z.text)
+  pub begun : IsBegun console telling input (entries_in world) x.text z.text
+  pub between_lines : (status ≡ 2) ⊎ (status ≡ 9) → IsBrokenOff console telling 0 input (entries_in world) x.text z.text
+  pub refused : (status ≡ 4) ⊎ (status ≡ 5) → IsBroken console telling input (entries_in world) x.text z.text
+  pub short : status ≡ 6 → IfSome world (λ w. IsShort console telling input z.left w.journal.entries x.text z.text)
   pub read_on : status ≡ 2 → (count : ℕ) × IsReadOn count input z.left
   pub full : status ≡ 9 → IsInputFull input z.left
 
--- What was done of a task at n localities: the console served its input; an application that computes read nothing. What was
--- written is what the journal printed; and where no ask for credit was refused, that is what one plain space says, or what was to
--- be computed.
-pub record HasDone (task : Task) (n : ℕ) (p : Profile) (status : ℕ) (world : Option Places) (x z : Ports) : Type 0 where
+-- what was written begins what one plain space at n localities says of the whole input
+pub record BeginsPlainly (console : UserConsole) (n : ℕ) (input : List ℕ) (old new : Option (List ℕ)) : Type 0 where
+  pub text : List ℕ
+  pub is : new ≡ followed old text
+  pub begins : IsFront text (commands console ++ (lines_text console n (lines_of input) ++ prompt))
+
+-- no line of the input is one that is not fed though it is not too long
+abbrev pub OwnsNone : UserConsole → List ℕ → Type 0
+OwnsNone console input = list_any (λ line. is_own (how console line)) (lines_of input) ≡ false
+
+-- What was done of a task at n localities: the console served its input, and the journal and its lengths behind each line tell what it
+-- wrote; an application that computes read nothing, and what was written is what the journal printed. Where no ask for credit was
+-- refused, and each line was fed, that is what one plain space says, or what was to be computed.
+pub record HasDone (task : Task) (n : ℕ) (p : Profile) (status : ℕ) (cuts : List ℕ) (world : Option Places) (x z : Ports) : Type 0 where
   pub shown : (line : List ℕ) → task_line task ≡ Some line
       → HasComputed line (prints_of (entries_in world)) status (entries_in world) x.text z.text
   pub computed : NoneRefused p (entries_in world) → (line : List ℕ) → task_line task ≡ Some line
       → HasComputed line (task_texts task) status (entries_in world) x.text z.text
-  pub unread : (line : List ℕ) → task_line task ≡ Some line → (z.left ≡ x.left) × (z.taken ≡ x.taken) × (z.read_faults ≡ x.read_faults)
+  pub unread : (line : List ℕ) → task_line task ≡ Some line → (z.left ≡ x.left) × (z.taken ≡ x.taken) × (z.read_faults ≡ x.read_faults) × (cuts ≡ [])
   pub no_read : (line : List ℕ) → task_line task ≡ Some line → (status ≢ 2) × (status ≢ 9)
   pub reads : (input : List ℕ) → x.left ≡ Some input → IsReadFrom input z.left x.taken z.taken
   pub served : (console : UserConsole) → task ≡ Console console → (input : List ℕ) → x.left ≡ Some input
-      → HasServed console (shown_in console (entries_in world)) status input world x z
+      → HasServed console (ByJournal (rules_of act_of n p) cuts) status input world x z
   pub served_plainly : NoneRefused p (entries_in world) → (console : UserConsole) → task ≡ Console console → (input : List ℕ) → x.left ≡ Some input
-      → HasServed console (lines_text console n) status input world x z
+      → OwnsNone console input → HasServed console (ByOneSpace n) status input world x z × BeginsPlainly console n input x.text z.text
 
 -- What was done of a setup: first its task, which ended with a status, and left the ports so; then the values of the counters were
 -- written.
-pub record HasRun (setup : Setup) (status : ℕ) (world : Option Places) (x z : Ports) : Type 0 where
+pub record HasRun (setup : Setup) (status : ℕ) (cuts : List ℕ) (world : Option Places) (x z : Ports) : Type 0 where
   pub places : IfSome world (λ w. (length w.nodes ≡ setup.localities) × (w.profile ≡ setup.profile))
   pub ended : ℕ
   pub mid : Ports
-  pub did : HasDone setup.task setup.localities setup.profile ended world x mid
+  pub did : HasDone setup.task setup.localities setup.profile ended cuts world x mid
   pub still : z ≡ record mid { text = z.text; write_faults = z.write_faults }
   pub counted : HasCounted setup.counters.items status ended (entries_in world) mid.text z.text
 

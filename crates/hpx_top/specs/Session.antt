@@ -1,5 +1,5 @@
 -- How far a session has come: the lines that were handled, what was fed for them, and what was written.
-use Rattle.std.specs.Prelude.{ℕ, Bool, true, false, Option, Some, None, IfSome, List, [], ◌∷◌, ◌++◌, ◌≡◌, ◌+◌, ◌≤◌, ◌^◌, ◌⊎◌, length, drop, if◌then◌else◌}
+use Rattle.std.specs.Prelude.{ℕ, Bool, true, false, Option, Some, None, IfSome, List, [], ◌∷◌, ◌++◌, ◌≡◌, ◌+◌, ◌≤◌, ◌^◌, ◌⊎◌, length, take, drop}
 use Rattle.std.specs.Option.{option_map}
 use Rattle.std.specs.List.{concat, list_any}
 use Rattle.hpx_value.specs.declared.profile.Profile.{Profile}
@@ -10,17 +10,18 @@ use Rattle.hpx_journal.specs.declared.entry.Event.TheVariants.{Line}
 use Rattle.hpx_journal.specs.Entries.{Rules}
 use Rattle.hpx_journal.specs.Whole.{IsLegal, replayed}
 use Rattle.hpx_journal.specs.Laws.{begun, fires, dones, count_events, is_refused_count}
-use Rattle.hpx_journal.specs.Pool.{NoneFails, prints_by, prints_of}
-use Rattle.hpx_journal.specs.Sessions.{IsSession, IsSettled, BeginsWith, entries_of}
+use Rattle.hpx_journal.specs.Pool.{NoneFails, prints_of}
+use Rattle.hpx_journal.specs.Sessions.{IsSettled, BeginsWith}
 use Rattle.hpx_ports.specs.Told.{preceded, followed}
 use Rattle.hpx_world.specs.Places.{Places, rules_in}
 use Rattle.hpx_world.specs.Quiet.{IsQuiet, IsAtRest}
-use Rattle.app_console.specs.Lines.{IsFront, is_long, is_quit, IsPiece, before_quit, opening, others_of}
-use Rattle.app_console.specs.Text.{written}
+use Rattle.app_console.specs.Console.{prompt}
+use Rattle.app_console.specs.Lines.{IsFront, is_long, is_quit, IsPiece, before_quit, opening}
 use Rattle.hpx_top.specs.Acts.{act_of}
 use Rattle.hpx_top.specs.declared.consoles.UserConsole.{UserConsole}
 use Rattle.hpx_top.specs.declared.consoles.UserConsole.TheVariants.{Accumulator, Space}
-use Rattle.hpx_top.specs.Texts.{Said, commands, fed, lines_text, mark_of, text_by}
+use Rattle.hpx_top.specs.Texts.{commands, fed, fed_lines, held_behind, lines_text}
+use Rattle.hpx_top.specs.Parts.{Part, Rests, AreParts, IsHandled, journal_of, text_of, part_text, cuts_of}
 use Rattle.hpx_top.specs.declared.session.SessionFault.{SessionFault}
 use Rattle.hpx_top.specs.declared.session.SessionFault.TheVariants.{Read, Write, OutOfMemory, InputFull}
 use Rattle.hpx_top.specs.Reader.{Reading, input_left, lines_left, bytes_left, behind}
@@ -72,30 +73,6 @@ abbrev pub lines_fed : List Entry → List (List ℕ)
 lines_fed [] = []
 lines_fed (e ∷ es) = lines_by e.event ++ lines_fed es
 
--- an event feeds a line
-abbrev pub is_line : Event → Bool
-is_line (Line a bytes) = true
-is_line _ = false
-
--- what is printed before the next line is fed
-abbrev pub prints_first : List Entry → List (List ℕ)
-prints_first [] = []
-prints_first (e ∷ es) = if is_line e.event then [] else prints_by e.event ++ prints_first es
-
--- for each line that was fed, in order, what was printed before the next
-abbrev pub texts_fed : List Entry → List (List (List ℕ))
-texts_fed [] = []
-texts_fed (e ∷ es) = if is_line e.event then prints_first es ∷ texts_fed es else texts_fed es
-
--- those for the lines of the user, which come behind the console's own
-abbrev pub texts_typed : UserConsole → List (List (List ℕ)) → List (List (List ℕ))
-texts_typed Accumulator texts = others_of texts
-texts_typed Space texts = texts
-
--- what is said for lines by a journal: for each a prompt, and what the journal printed once it was fed
-abbrev pub shown_in : UserConsole → List Entry → Said
-shown_in console entries lines = written lines (texts_typed console (texts_fed entries))
-
 -- the journal grew by what follows from a text that was fed
 pub record IsFed (text : List ℕ) (old new : List Entry) : Type 0 where
   pub block : List Entry
@@ -106,11 +83,25 @@ pub record IsFed (text : List ℕ) (old new : List Entry) : Type 0 where
 abbrev pub FeedsAtMost : List ℕ → List Entry → List Entry → Type 0
 FeedsAtMost text old new = (new ≡ old) ⊎ IsFed text old new
 
+-- the journal grew, and a line was fed at most once, if it is one that is fed
+pub record HasBegun (console : UserConsole) (line : List ℕ) (old new : List Entry) : Type 0 where
+  pub more : List Entry
+  pub is : new ≡ old ++ more
+  pub once : (lines_fed more ≡ []) ⊎ (lines_fed more ≡ fed_lines console (line ∷ []))
+
 -- what is fed for these lines was fed, or there are none and nothing was fed at all
 abbrev pub HasFed : UserConsole → List (List ℕ) → List Entry → Type 0
 HasFed console lines entries = (lines_fed entries ≡ fed console lines) ⊎ ((lines_fed entries ≡ []) × (lines ≡ []))
 
--- ---- what a session has done
+-- the journal grew by what a text did: it was fed, and then nothing was left to do
+pub record Feeds (r : Rules) (text : List ℕ) (old new : List Entry) : Type 0 where
+  pub block : List Entry
+  pub is : new ≡ old ++ block
+  pub begins : BeginsWith text block
+  pub legal : IsLegal r new
+  pub settled : IsSettled r (replayed r new)
+
+-- ---- what goes to a sink
 
 -- bytes went to a sink, which are the front of these
 pub record WritesFront (bytes : List ℕ) (old new : Option (List ℕ)) : Type 0 where
@@ -124,111 +115,169 @@ pub record WritesUpTo (rest bytes : List ℕ) (old new : Option (List ℕ)) : Ty
   pub whole : front ++ rest ≡ bytes
   pub held : new ≡ followed old front
 
--- what is said of the lines of a journal: by the journal, and where no action failed, by one plain space at n localities
-abbrev pub Tells : UserConsole → ℕ → List Entry → Said → Type 0
-Tells console n entries said = (said ≡ shown_in console entries) ⊎ (NoneFails entries × (said ≡ lines_text console n))
+-- ---- what is said of lines
 
--- the journal grew by what a text did: it was fed, and then nothing was left to do
-pub record Feeds (r : Rules) (text : List ℕ) (old new : List Entry) : Type 0 where
-  pub block : List Entry
-  pub is : new ≡ old ++ block
-  pub begins : BeginsWith text block
-  pub legal : IsLegal r new
-  pub settled : IsSettled r (replayed r new)
+-- what was done before the first line: the accumulator was made, and then nothing was left to do; or nothing
+abbrev pub IsOpened : UserConsole → Rules → List Entry → Type 0
+IsOpened Accumulator r first = BeginsWith opening first × Rests r first
+IsOpened Space r first = first ≡ []
 
--- before the first line the accumulator was made, or the journal stands
-abbrev pub HasOpened : UserConsole → Rules → List Entry → List Entry → Type 0
-HasOpened Accumulator r old new = Feeds r opening old new
-HasOpened Space r old new = new ≡ old
+-- the journal grew so before the first line
+pub record HasOpened (console : UserConsole) (r : Rules) (old new : List Entry) : Type 0 where
+  pub first : List Entry
+  pub is : new ≡ old ++ first
+  pub opened : IsOpened console r first
 
--- the journal is a session of these lines
-pub record IsJournalOf (console : UserConsole) (r : Rules) (lines : List (List ℕ)) (entries : List Entry) : Type 0 where
-  pub blocks : List (List Entry)
-  pub session : IsSession r [] (fed console lines) blocks
-  pub entries_are : entries ≡ entries_of blocks
+-- The text of these lines, by a journal and its lengths behind each line: the journal has a part for each.
+pub record IsTold (console : UserConsole) (r : Rules) (cuts : List ℕ) (entries : List Entry) (lines : List (List ℕ)) (text : List ℕ) : Type 0 where
+  pub first : List Entry
+  pub parts : List Part
+  pub later : List Entry
+  pub entries_are : entries ≡ (first ++ journal_of parts) ++ later
+  pub opened : IsOpened console r first
+  pub handled : AreParts console r false first lines parts
+  pub cuts_are : cuts_of first parts ≡ take (length lines) cuts
+  pub text_is : text ≡ text_of parts
+
+-- by what lines are told: by the journal and its lengths behind them, or by one plain space at so many localities
+pub data Telling : Type 0 where
+  ByJournal : (r : Rules) (cuts : List ℕ) → Telling
+  ByOneSpace : (n : ℕ) → Telling
+
+-- the text of lines
+abbrev pub Tells : UserConsole → Telling → List Entry → List (List ℕ) → List ℕ → Type 0
+Tells console (ByJournal r cuts) entries lines text = IsTold console r cuts entries lines text
+Tells console (ByOneSpace n) entries lines text = text ≡ lines_text console n lines
+
+-- no line but these was handled
+abbrev pub TellsAll : UserConsole → Telling → List Entry → List (List ℕ) → List ℕ → Type 0
+TellsAll console (ByJournal r cuts) entries lines text = IsTold console r cuts entries lines text × (length cuts ≡ length lines)
+TellsAll console (ByOneSpace n) entries lines text = text ≡ lines_text console n lines
+
+-- the text of all lines with the last prompt, and in a hold what was printed behind it, once it was let go
+pub record IsToldUp (console : UserConsole) (r : Rules) (cuts : List ℕ) (entries : List Entry) (lines : List (List ℕ)) (text : List ℕ) : Type 0 where
+  pub body : List ℕ
+  pub told : IsTold console r cuts entries lines body
+  pub count : length cuts ≡ length lines
+  pub last : held_behind console false lines ≡ false → told.later ≡ []
+  pub unfed : lines_fed told.later ≡ []
+  pub text_is : text ≡ body ++ (prompt ++ concat (prints_of told.later))
+
+-- so it is told, or by one plain space
+abbrev pub TellsUp : UserConsole → Telling → List Entry → List (List ℕ) → List ℕ → Type 0
+TellsUp console (ByJournal r cuts) entries lines text = IsToldUp console r cuts entries lines text
+TellsUp console (ByOneSpace n) entries lines text = text ≡ lines_text console n lines ++ prompt
+
+-- ---- what a session has done
 
 -- the first lines of an input were handled, none of them a quit, and the rest is left
 pub record HandsOut (all left : Option (List (List ℕ))) (lines : List (List ℕ)) : Type 0 where
   pub first : all ≡ preceded lines left
   pub goes_on : list_any is_quit lines ≡ false
 
--- between two lines: those that were handled were fed, and what they print was written
+-- between two lines: those that were handled were fed, if they are fed at all, and their text was written
 pub record IsServing (console : UserConsole) (r : Rules) (all : Option (List (List ℕ))) (before : Option (List ℕ)) (reading : Reading) (left : Option (List ℕ))
-    (entries : List Entry) (now : Option (List ℕ)) : Type 0 where
+    (held : Bool) (cuts : List ℕ) (entries : List Entry) (now : Option (List ℕ)) : Type 0 where
   pub lines : List (List ℕ)
   pub handled : HandsOut all (lines_left reading left) lines
   pub few : length lines + bytes_left reading ≤ 67108864
-  pub journal : IsJournalOf console r lines entries
-  pub held : now ≡ followed before (commands console ++ shown_in console entries lines)
-
--- so many were handled
-abbrev pub IsServingAt : UserConsole → ℕ → Rules → Option (List (List ℕ)) → Option (List ℕ) → Reading → Option (List ℕ) → List Entry → Option (List ℕ) → Type 0
-IsServingAt console count r all before reading left entries now = (s : IsServing console r all before reading left entries now) × (length s.lines ≡ count)
+  pub text : List ℕ
+  pub told : IsTold console r cuts entries lines text
+  pub last : told.later ≡ []
+  pub count : length cuts ≡ length lines
+  pub fed_are : lines_fed entries ≡ fed console lines
+  pub mode : held ≡ held_behind console false lines
+  pub written : now ≡ followed before (commands console ++ text)
 
 -- and the others are behind so many newlines of all bytes
 pub record IsHandling (console : UserConsole) (r : Rules) (bytes : Option (List ℕ)) (all : Option (List (List ℕ))) (before : Option (List ℕ)) (reading : Reading) (left : Option (List ℕ))
-    (entries : List Entry) (now : Option (List ℕ)) : Type 0 where
-  pub count : ℕ
-  pub serving : IsServingAt console count r all before reading left entries now
-  pub behind_is : input_left reading left ≡ option_map (behind count) bytes
+    (held : Bool) (cuts : List ℕ) (entries : List Entry) (now : Option (List ℕ)) : Type 0 where
+  pub serving : IsServing console r all before reading left held cuts entries now
+  pub behind_is : input_left reading left ≡ option_map (behind (length cuts)) bytes
 
--- After a prompt: the text is that of the lines that were handled. Of the lines behind them one may have been fed.
-pub record IsCut (console : UserConsole) (said : Said) (most : ℕ) (all : Option (List (List ℕ))) (before : Option (List ℕ)) (entries : List Entry) (now : Option (List ℕ)) : Type 0 where
+-- After a prompt: the text is that of the lines that were handled. Of the lines behind them so many may have been begun.
+pub record IsCut (console : UserConsole) (telling : Telling) (most : ℕ) (all : Option (List (List ℕ))) (before : Option (List ℕ)) (entries : List Entry) (now : Option (List ℕ)) : Type 0 where
   pub lines : List (List ℕ)
   pub next : List (List ℕ)
   pub left : Option (List (List ℕ))
   pub handled : HandsOut all left (lines ++ next)
   pub few : length next ≤ most
   pub journal : lines_fed entries ≡ fed console (lines ++ next)
-  pub held : now ≡ followed before (text_by console said lines)
+  pub text : List ℕ
+  pub told : TellsAll console telling entries lines text
+  pub written : now ≡ followed before (commands console ++ (text ++ prompt))
 
 -- so many were handled
-abbrev pub IsCutAt : UserConsole → ℕ → Said → ℕ → Option (List (List ℕ)) → Option (List ℕ) → List Entry → Option (List ℕ) → Type 0
-IsCutAt console count said most all before entries now = (c : IsCut console said most all before entries now) × (length c.lines ≡ count)
+abbrev pub IsCutAt : UserConsole → ℕ → Telling → ℕ → Option (List (List ℕ)) → Option (List ℕ) → List Entry → Option (List ℕ) → Type 0
+IsCutAt console count telling most all before entries now = (c : IsCut console telling most all before entries now) × (length c.lines ≡ count)
 
 -- In a line behind a prompt: the text is that of the lines before it. It is not too long, and it may have been fed.
-pub record IsCutIn (console : UserConsole) (said : Said) (all : Option (List (List ℕ))) (before : Option (List ℕ)) (entries : List Entry) (now : Option (List ℕ)) : Type 0 where
+pub record IsCutIn (console : UserConsole) (telling : Telling) (all : Option (List (List ℕ))) (before : Option (List ℕ)) (entries : List Entry) (now : Option (List ℕ)) : Type 0 where
   pub lines : List (List ℕ)
   pub line : List ℕ
   pub left : Option (List (List ℕ))
   pub handled : HandsOut all left (lines ++ line ∷ [])
   pub short : is_long line ≡ false
   pub journal : (lines_fed entries ≡ fed console lines) ⊎ (lines_fed entries ≡ fed console (lines ++ line ∷ []))
-  pub held : now ≡ followed before (text_by console said lines)
+  pub text : List ℕ
+  pub told : TellsAll console telling entries lines text
+  pub written : now ≡ followed before (commands console ++ (text ++ prompt))
 
 -- Behind the first text, before the first prompt: the accumulator is to be made, and the line for it may have been fed. Only its
 -- console makes one.
 pub record IsCutAtOpening (console : UserConsole) (before : Option (List ℕ)) (entries : List Entry) (now : Option (List ℕ)) : Type 0 where
   pub only : console ≡ Accumulator
   pub journal : (lines_fed entries ≡ []) ⊎ (lines_fed entries ≡ opening ∷ [])
-  pub held : now ≡ followed before (commands console)
+  pub written : now ≡ followed before (commands console)
 
 -- after the last prompt: all lines were handled, up to the end or to a quit
-pub record IsOver (console : UserConsole) (said : Said) (ended : Bool) (all : Option (List (List ℕ))) (before : Option (List ℕ)) (entries : List Entry) (now : Option (List ℕ)) : Type 0 where
+pub record IsOver (console : UserConsole) (r : Rules) (ended : Bool) (all : Option (List (List ℕ))) (before : Option (List ℕ)) (held : Bool) (cuts : List ℕ) (entries : List Entry) (now : Option (List ℕ)) : Type 0 where
   pub lines : List (List ℕ)
   pub left : Option (List (List ℕ))
   pub handled : HandsOut all left lines
   pub last : IfSome left (λ others. before_quit others ≡ [])
   pub read_up : (ended ≡ true) ⊎ IfSome all (λ lines. list_any is_quit lines ≡ true)
-  pub journal : lines_fed entries ≡ fed console lines
-  pub held : now ≡ followed before (text_by console said lines)
+  pub text : List ℕ
+  pub told : IsTold console r cuts entries lines text
+  pub none : told.later ≡ []
+  pub count : length cuts ≡ length lines
+  pub fed_are : lines_fed entries ≡ fed console lines
+  pub mode : held ≡ held_behind console false lines
+  pub written : now ≡ followed before (commands console ++ (text ++ prompt))
 
 -- the text of these lines, or of all but the last of them, was written whole
-pub record AllButOne (console : UserConsole) (said : Said) (lines : List (List ℕ)) (text : List ℕ) : Type 0 where
+pub record AllButOne (console : UserConsole) (telling : Telling) (entries : List Entry) (lines : List (List ℕ)) (written : List ℕ) : Type 0 where
   pub done : List (List ℕ)
   pub last : List (List ℕ)
   pub parts : lines ≡ done ++ last
   pub few : length last ≤ 1
-  pub written : IsFront (commands console ++ said done) text
+  pub text : List ℕ
+  pub told : Tells console telling entries done text
+  pub front : IsFront (commands console ++ text) written
 
--- wherever a session ends: what was written is the front of what the lines that were fed print, and is whole for all but the last
-pub record IsUnderWay (console : UserConsole) (said : Said) (all : Option (List (List ℕ))) (before : Option (List ℕ)) (entries : List Entry) (now : Option (List ℕ)) : Type 0 where
+-- what was written is a front of the text of these lines, with the prompt behind it
+abbrev pub IsTheirs : UserConsole → Telling → List Entry → List (List ℕ) → List ℕ → Type 0
+IsTheirs console telling entries lines written = (text : List ℕ) × TellsAll console telling entries lines text × IsFront written (commands console ++ (text ++ prompt))
+
+-- or, where no line is left, of all that is written for them
+abbrev pub IsOfAll : UserConsole → Telling → List Entry → List (List ℕ) → List ℕ → Type 0
+IsOfAll console telling entries lines written = (text : List ℕ) × TellsUp console telling entries lines text × IsFront written (commands console ++ text)
+
+-- wherever a session ends: what was written is the front of what the lines that were handled print, and is whole for all but the last;
+-- one line more may have been begun
+pub record IsUnderWay (console : UserConsole) (telling : Telling) (all : Option (List (List ℕ))) (before : Option (List ℕ)) (entries : List Entry) (now : Option (List ℕ)) : Type 0 where
   pub lines : List (List ℕ)
+  pub next : List (List ℕ)
   pub left : Option (List (List ℕ))
-  pub handled : HandsOut all left lines
-  pub journal : HasFed console lines entries
-  pub written : WritesFront (text_by console said lines) before now
-  pub almost : ((lines_fed entries ≡ []) × (lines ≡ [])) ⊎ AllButOne console said lines written.front
+  pub handled : HandsOut all left (lines ++ next)
+  pub few : length next ≤ 1
+  pub journal : HasFed console (lines ++ next) entries
+  pub text : List ℕ
+  pub written : now ≡ followed before text
+  pub theirs : IsTheirs console telling entries lines text
+      ⊎ (IsOfAll console telling entries lines text × (next ≡ []) × IfSome left (λ others. before_quit others ≡ []))
+      ⊎ ((lines ≡ []) × IsFront text (commands console))
+  pub almost : AllButOne console telling entries lines text ⊎ (lines ≡ [])
 
 -- the bytes that may be read were read, and behind the lines that were handled they hold no whole line
 pub record IsStopped (all : Option (List (List ℕ))) (reading : Reading) (left : Option (List ℕ)) : Type 0 where
@@ -239,17 +288,40 @@ pub record IsStopped (all : Option (List (List ℕ))) (reading : Reading) (left 
 
 -- ---- by the cause of an end
 
--- a line was broken off: a write failed once it was handled, or it was fed once at most
-abbrev pub IsLineEndedBy : UserConsole → SessionFault → Rules → List ℕ → List Entry → List Entry → Option (List ℕ) → Option (List ℕ) → Type 0
-IsLineEndedBy console Write r line old new before now = Feeds r (mark_of console ∷ line) old new × WritesFront (concat (prints_of (drop (length old) new))) before now
-IsLineEndedBy console Read r line old new before now = ⊥
-IsLineEndedBy console InputFull r line old new before now = ⊥
-IsLineEndedBy console _ r line old new before now = FeedsAtMost (mark_of console ∷ line) old new × (now ≡ before)
+-- a line was handled, and its text was written
+pub record IsServed (console : UserConsole) (r : Rules) (line : List ℕ) (held held' : Bool) (cuts cuts' : List ℕ) (old new : List Entry) (before now : Option (List ℕ)) : Type 0 where
+  pub handled : IsHandled console r line held held' cuts cuts' old new
+  pub written : now ≡ followed before (part_text handled.part)
+
+-- or a write failed
+pub record IsServedUpTo (console : UserConsole) (r : Rules) (line : List ℕ) (held held' : Bool) (cuts cuts' : List ℕ) (old new : List Entry) (before now : Option (List ℕ)) : Type 0 where
+  pub handled : IsHandled console r line held held' cuts cuts' old new
+  pub written : WritesFront (part_text handled.part) before now
+
+-- or it was begun at most, and nothing was written
+pub record IsLeft (console : UserConsole) (line : List ℕ) (cuts cuts' : List ℕ) (old new : List Entry) (before now : Option (List ℕ)) : Type 0 where
+  pub begun : HasBegun console line old new
+  pub cut : cuts' ≡ cuts
+  pub written : now ≡ before
+
+-- a line was broken off: a write failed once it was handled, or it was begun
+abbrev pub IsLineEndedBy : UserConsole → SessionFault → Rules → List ℕ → Bool → Bool → List ℕ → List ℕ → List Entry → List Entry → Option (List ℕ) → Option (List ℕ) → Type 0
+IsLineEndedBy console Write r line held held' cuts cuts' old new before now = IsServedUpTo console r line held held' cuts cuts' old new before now
+IsLineEndedBy console Read r line held held' cuts cuts' old new before now = ⊥
+IsLineEndedBy console InputFull r line held held' cuts cuts' old new before now = ⊥
+IsLineEndedBy console _ r line held held' cuts cuts' old new before now = IsLeft console line cuts cuts' old new before now
 
 -- a session was broken off: at a write anywhere, otherwise behind a prompt, or in the line behind it
-abbrev pub IsCutBy : UserConsole → SessionFault → Said → Option (List (List ℕ)) → Option (List ℕ) → List Entry → Option (List ℕ) → Type 0
-IsCutBy console Write said all before entries now = IsUnderWay console said all before entries now
-IsCutBy console Read said all before entries now = IsCut console said 0 all before entries now
-IsCutBy console InputFull said all before entries now = IsCut console said 0 all before entries now
-IsCutBy console OutOfMemory said all before entries now = IsCut console said 1 all before entries now
-IsCutBy console _ said all before entries now = IsCutIn console said all before entries now
+abbrev pub IsCutBy : UserConsole → SessionFault → Telling → Option (List (List ℕ)) → Option (List ℕ) → List Entry → Option (List ℕ) → Type 0
+IsCutBy console Write telling all before entries now = IsUnderWay console telling all before entries now
+IsCutBy console Read telling all before entries now = IsCut console telling 0 all before entries now
+IsCutBy console InputFull telling all before entries now = IsCut console telling 0 all before entries now
+IsCutBy console OutOfMemory telling all before entries now = IsCut console telling 1 all before entries now
+IsCutBy console _ telling all before entries now = IsCutIn console telling all before entries now
+
+-- behind the last prompt: what was held back was not let go, or what it prints was not written
+abbrev pub IsEndCutBy : SessionFault → List Entry → List Entry → Option (List ℕ) → Option (List ℕ) → Type 0
+IsEndCutBy Write old new before now = WritesFront (concat (prints_of (drop (length old) new))) before now
+IsEndCutBy Read old new before now = ⊥
+IsEndCutBy InputFull old new before now = ⊥
+IsEndCutBy _ old new before now = now ≡ before

@@ -1,12 +1,14 @@
--- What a console says at n localities, and which lines it is fed.
-use Rattle.std.specs.Prelude.{ℕ, List, [], ◌∷◌, ◌++◌}
+-- What a console says at n localities, how its lines are handled, and which of them it is fed.
+use Rattle.std.specs.Prelude.{ℕ, Bool, true, false, List, [], ◌∷◌, ◌++◌, if◌then◌else◌}
 use Rattle.app_console.specs.declared.table.Console.{Console}
 use Rattle.app_console.specs.declared.table.Console.TheVariants as Tables
 use Rattle.app_console.specs.Commands.{help_of}
-use Rattle.app_console.specs.Console.{prompt}
-use Rattle.app_console.specs.Lines.{opening}
+use Rattle.app_console.specs.Lines.{is_long, opening}
 use Rattle.app_console.specs.Plain.{Plain, at_boot, opened}
-use Rattle.app_console.specs.Text.{marked, lines_text as lines_text_in}
+use Rattle.app_console.specs.Text.{lines_text as lines_text_in}
+use Rattle.hpx_own.specs.Lines.{handled_as}
+use Rattle.hpx_own.specs.declared.lines.Handled.{Handled}
+use Rattle.hpx_own.specs.declared.lines.Handled.TheVariants.{Fed, Hold, Drain}
 use Rattle.hpx_top.specs.declared.consoles.UserConsole.{UserConsole}
 use Rattle.hpx_top.specs.declared.consoles.UserConsole.TheVariants.{Accumulator, Space}
 
@@ -34,18 +36,53 @@ start_of Space n = at_boot n
 abbrev pub commands : UserConsole → List ℕ
 commands console = help_of (table_of console)
 
--- what is said behind it for the lines of an input: for each a prompt, and what it prints
-abbrev pub Said : Type 0
-Said = List (List ℕ) → List ℕ
-
--- by one plain space, which begins as the console's does
-abbrev pub lines_text : UserConsole → ℕ → Said
+-- what one plain space, which begins as the console's does, says behind it for lines: for each a prompt, and what it prints
+abbrev pub lines_text : UserConsole → ℕ → List (List ℕ) → List ℕ
 lines_text console n lines = lines_text_in (table_of console) n (start_of console n) lines
 
--- the whole text, with one prompt more at the end
-abbrev pub text_by : UserConsole → Said → List (List ℕ) → List ℕ
-text_by console said lines = commands console ++ (said lines ++ prompt)
+-- ---- how a line is handled
 
--- all lines that are fed: the console's own, and those of the user that are not too long, each after the console's mark
+-- whether a console has lines that are not fed: `hold`, `turn`, `drain`, `audit` and `counter`
+abbrev pub owns : UserConsole → Bool
+owns Accumulator = false
+owns Space = true
+
+-- a line is too long, or is handled as it is typed
+pub data How : Type 0 where
+  TooLong : How
+  Typed : (line : Handled) → How
+
+-- how a line is handled
+abbrev pub how : UserConsole → List ℕ → How
+how console line = if is_long line then TooLong else Typed (handled_as (owns console) line)
+
+-- it is fed
+abbrev pub is_fed : How → Bool
+is_fed (Typed Fed) = true
+is_fed _ = false
+
+-- it is not fed, though it is not too long
+abbrev pub is_own : How → Bool
+is_own TooLong = false
+is_own (Typed Fed) = false
+is_own _ = true
+
+-- whether delivery is held back behind it, by whether it was before
+abbrev pub held_by : Bool → How → Bool
+held_by held (Typed Hold) = true
+held_by held (Typed Drain) = false
+held_by held _ = held
+
+-- and behind lines
+abbrev pub held_behind : UserConsole → Bool → List (List ℕ) → Bool
+held_behind console held [] = held
+held_behind console held (line ∷ lines) = held_behind console (held_by held (how console line)) lines
+
+-- the lines of the user that are fed, each after the console's mark
+abbrev pub fed_lines : UserConsole → List (List ℕ) → List (List ℕ)
+fed_lines console [] = []
+fed_lines console (line ∷ lines) = if is_fed (how console line) then (mark_of console ∷ line) ∷ fed_lines console lines else fed_lines console lines
+
+-- all lines that are fed: the console's own, and those of the user
 abbrev pub fed : UserConsole → List (List ℕ) → List (List ℕ)
-fed console lines = opens console ++ marked (mark_of console) lines
+fed console lines = opens console ++ fed_lines console lines

@@ -1,6 +1,6 @@
 //! The consoles that a person can run.
 ghost use Rattle.std.specs.Prelude.{◌≡◌};
-ghost use Rattle.hpx_top.specs.Texts.{commands, mark_of};
+ghost use Rattle.hpx_top.specs.Texts.{commands, mark_of, owns};
 
 use app_console::lines::{ACCUMULATOR, SPACE};
 use app_console::say::help;
@@ -33,6 +33,16 @@ impl UserConsole {
         match self {
             UserConsole::Accumulator => ACCUMULATOR,
             UserConsole::Space => SPACE,
+        }
+    }
+
+    /// Whether it has lines that are not fed: `hold`, `turn`, `drain`, `audit` and `counter`.
+    pub fn owns(self) -> bool
+        ensures { result ≡ owns self }
+    {
+        match self {
+            UserConsole::Accumulator => false,
+            UserConsole::Space => true,
         }
     }
 }

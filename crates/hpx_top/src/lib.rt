@@ -4,8 +4,12 @@
 pub mod acts;
 mod compute;
 pub mod consoles;
+mod own;
 mod printed;
+mod progress;
 pub mod reader;
 pub mod run;
+pub mod serve;
 pub mod session;
 pub mod task;
+mod typed;

@@ -7,7 +7,9 @@ ghost use Rattle.hpx_ports.specs.Faults.{Rose};
 ghost use Rattle.hpx_ports.specs.Told.{followed};
 ghost use Rattle.hpx_top.specs.Printed.{HasTold, counters_text};
 ghost use Rattle.hpx_top.specs.Runs.{ports_of, HasCause, HasDone, HasEnded, HasRun, HasServed, IsLawful, NothingFailed, Says};
-ghost use Rattle.hpx_top.specs.Session.{entries_in, Tells, WritesFront};
+ghost use Rattle.hpx_steps.specs.Rest.{rules_of};
+ghost use Rattle.hpx_top.specs.Acts.{act_of};
+ghost use Rattle.hpx_top.specs.Session.{entries_in, ByJournal, WritesFront};
 ghost use Rattle.hpx_top.specs.Statuses.{IsStatus, status_after, status_of, status_line};
 ghost use Rattle.hpx_top.specs.Usage.{IsRequest, IsSetup, bad_word, notice_in, request_in};
 
@@ -15,7 +17,8 @@ use crate::acts::AllActs;
 use crate::compute::{Work, compute_all, work_of};
 use crate::consoles::UserConsole;
 use crate::printed::{print, write_values};
-use crate::session::{SessionFault, serve};
+use crate::serve::serve;
+use crate::session::SessionFault;
 use crate::task::{Notice, Request, Setup, request_in};
 use hpx_counters::counter::Counter;
 use hpx_options::texts;
@@ -34,6 +37,8 @@ pub struct End<F: Fabric> {
     pub status: u8,
     pub world: Option<World<AllActs>>,
     pub fabric: F,
+    /// How long the journal was behind each line of the console that was handled.
+    pub cuts: Vec<u64>,
 }
 
 /// The line and the status of a session that ended early.
@@ -73,7 +78,7 @@ fn serve_all<S: Source, K: Sink, F: Fabric>(
     source: &mut S,
     sink: &mut K,
     fabric: &mut F,
-) -> (Option<World<AllActs>>, Result<(), SessionFault>)
+) -> (Option<World<AllActs>>, Result<(), SessionFault>, Vec<u64>)
     requires some { 1 ≤ localities }
     requires few { localities ≤ 64 }
     requires profile { IsValid profile }
@@ -82,13 +87,14 @@ fn serve_all<S: Source, K: Sink, F: Fabric>(
 
     ensures served { let x = ports_of (S.left source.old) (S.taken source.old) (K.held sink.old) (S.faults source.old) (K.faults sink.old) (F.faults fabric.old) in
         let z = ports_of (S.left source.new) (S.taken source.new) (K.held sink.new) (S.faults source.new) (K.faults sink.new) (F.faults fabric.new) in
-        (input : _) (said : _) → S.left source.old ≡ Some input → Tells console localities (entries_in result.0) said →
-        HasServed console said (status_after result.1) input result.0 x z }
+        (input : _) → S.left source.old ≡ Some input →
+        HasServed console (ByJournal (rules_of act_of localities profile) result.2.items) (status_after result.1) input result.0 x z }
     ensures cause { let x = ports_of (S.left source.old) (S.taken source.old) (K.held sink.old) (S.faults source.old) (K.faults sink.old) (F.faults fabric.old) in
         let z = ports_of (S.left source.new) (S.taken source.new) (K.held sink.new) (S.faults source.new) (K.faults sink.new) (F.faults fabric.new) in
         HasCause (status_after result.1) result.0 x z }
     ensures status { IsStatus (status_after result.1) }
     ensures places { IfSome result.0 (λ w. (length w.nodes ≡ localities) × (w.profile ≡ profile)) }
+    ensures few { length result.2.items ≤ 67108865 }
     ensures lawful { IfSome result.0 (λ w. IsLawful w (F.flight fabric.new) (F.trace fabric.new)) }
     ensures ended { OnOk result.1 (IfSome result.0 HasEnded) }
     ensures none { result.0 ≡ None → result.1 ≡ Err SessionFault.OutOfMemory }
@@ -96,11 +102,11 @@ fn serve_all<S: Source, K: Sink, F: Fabric>(
 {
     let mut world = match World::boot(alloc, AllActs { localities }, profile) {
         Ok(world) => world,
-        Err(_) => return (None, Err(SessionFault::OutOfMemory)),
+        Err(_) => return (None, Err(SessionFault::OutOfMemory), Vec::new(alloc)),
     };
-    let served = serve(alloc, console, &mut world, source, sink, fabric);
+    let (cuts, served) = serve(alloc, console, &mut world, source, sink, fabric);
     world.law();
-    (Some(world), served)
+    (Some(world), served, cuts)
 }
 
 /// The task of a setup, on a fabric in which nothing is in flight yet.
@@ -110,14 +116,14 @@ fn run_task<S: Source, K: Sink, F: Fabric>(
     source: &mut S,
     sink: &mut K,
     fabric: &mut F,
-) -> (Option<World<AllActs>>, Result<(), SessionFault>)
+) -> (Option<World<AllActs>>, Result<(), SessionFault>, Vec<u64>)
     requires setup { IsSetup setup.now }
     requires flight { F.flight fabric.old ≡ Some [] }
     requires trace { F.trace fabric.old ≡ Some [] }
 
     ensures did { let x = ports_of (S.left source.old) (S.taken source.old) (K.held sink.old) (S.faults source.old) (K.faults sink.old) (F.faults fabric.old) in
         let z = ports_of (S.left source.new) (S.taken source.new) (K.held sink.new) (S.faults source.new) (K.faults sink.new) (F.faults fabric.new) in
-        HasDone setup.now.task setup.now.localities setup.now.profile (status_after result.1) result.0 x z }
+        HasDone setup.now.task setup.now.localities setup.now.profile (status_after result.1) result.2.items result.0 x z }
     ensures unread { (line : _) → task_line setup.now.task ≡ Some line → source.new ≡ source.old }
     ensures cause { let x = ports_of (S.left source.old) (S.taken source.old) (K.held sink.old) (S.faults source.old) (K.faults sink.old) (F.faults fabric.old) in
         let z = ports_of (S.left source.new) (S.taken source.new) (K.held sink.new) (S.faults source.new) (K.faults sink.new) (F.faults fabric.new) in
@@ -134,8 +140,11 @@ fn run_task<S: Source, K: Sink, F: Fabric>(
         Ok(Work::Serves(console)) => {
             serve_all(alloc, console, localities, profile, source, sink, fabric)
         }
-        Ok(Work::Answers(line)) => compute_all(alloc, localities, profile, line, sink, fabric),
-        Err(OutOfMemory) => (None, Err(SessionFault::OutOfMemory)),
+        Ok(Work::Answers(line)) => {
+            let (world, done) = compute_all(alloc, localities, profile, line, sink, fabric);
+            (world, done, Vec::new(alloc))
+        }
+        Err(OutOfMemory) => (None, Err(SessionFault::OutOfMemory), Vec::new(alloc)),
     }
 }
 
@@ -165,14 +174,14 @@ fn run_setup<S: Source, K: Sink, F: Fabric>(
     source: &mut S,
     sink: &mut K,
     fabric: &mut F,
-) -> (Option<World<AllActs>>, Result<(), SessionFault>)
+) -> (Option<World<AllActs>>, Result<(), SessionFault>, Vec<u64>)
     requires setup { IsSetup setup.now }
     requires flight { F.flight fabric.old ≡ Some [] }
     requires trace { F.trace fabric.old ≡ Some [] }
 
     ensures did { let x = ports_of (S.left source.old) (S.taken source.old) (K.held sink.old) (S.faults source.old) (K.faults sink.old) (F.faults fabric.old) in
         let z = ports_of (S.left source.new) (S.taken source.new) (K.held sink.new) (S.faults source.new) (K.faults sink.new) (F.faults fabric.new) in
-        HasRun setup.now (status_after result.1) result.0 x z }
+        HasRun setup.now (status_after result.1) result.2.items result.0 x z }
     ensures unread { (line : _) → task_line setup.now.task ≡ Some line → source.new ≡ source.old }
     ensures cause { let x = ports_of (S.left source.old) (S.taken source.old) (K.held sink.old) (S.faults source.old) (K.faults sink.old) (F.faults fabric.old) in
         let z = ports_of (S.left source.new) (S.taken source.new) (K.held sink.new) (S.faults source.new) (K.faults sink.new) (F.faults fabric.new) in
@@ -183,12 +192,12 @@ fn run_setup<S: Source, K: Sink, F: Fabric>(
     ensures none { result.0 ≡ None → result.1 ≡ Err SessionFault.OutOfMemory }
     ensures untouched { result.0 ≡ None → (source.new ≡ source.old) × (sink.new ≡ sink.old) × (fabric.new ≡ fabric.old) }
 {
-    let (world, done) = run_task(alloc, setup, source, sink, fabric);
+    let (world, done, cuts) = run_task(alloc, setup, source, sink, fabric);
     let counted = match done {
         Ok(()) => write_counters(setup.counters.as_slice(), &world, sink),
         Err(fault) => Err(fault),
     };
-    (world, counted)
+    (world, counted, cuts)
 }
 
 /// What the words ask for, on a fabric in which nothing is in flight yet.
@@ -198,7 +207,7 @@ fn fulfil<S: Source, K: Sink, F: Fabric>(
     source: &mut S,
     sink: &mut K,
     fabric: &mut F,
-) -> (Option<World<AllActs>>, Result<(), SessionFault>)
+) -> (Option<World<AllActs>>, Result<(), SessionFault>, Vec<u64>)
     requires request { IsRequest request.now }
     requires flight { F.flight fabric.old ≡ Some [] }
     requires trace { F.trace fabric.old ≡ Some [] }
@@ -207,7 +216,7 @@ fn fulfil<S: Source, K: Sink, F: Fabric>(
         (result.0 ≡ None) × HasTold notice (status_after result.1) (K.held sink.old) (K.held sink.new) }
     ensures did { let x = ports_of (S.left source.old) (S.taken source.old) (K.held sink.old) (S.faults source.old) (K.faults sink.old) (F.faults fabric.old) in
         let z = ports_of (S.left source.new) (S.taken source.new) (K.held sink.new) (S.faults source.new) (K.faults sink.new) (F.faults fabric.new) in
-        (setup : Setup) → request.now ≡ Request.Run setup → HasRun setup (status_after result.1) result.0 x z }
+        (setup : Setup) → request.now ≡ Request.Run setup → HasRun setup (status_after result.1) result.2.items result.0 x z }
     ensures unread { (setup : Setup) (line : _) → request.now ≡ Request.Run setup → task_line setup.task ≡ Some line → source.new ≡ source.old }
     ensures cause { let x = ports_of (S.left source.old) (S.taken source.old) (K.held sink.old) (S.faults source.old) (K.faults sink.old) (F.faults fabric.old) in
         let z = ports_of (S.left source.new) (S.taken source.new) (K.held sink.new) (S.faults source.new) (K.faults sink.new) (F.faults fabric.new) in
@@ -220,7 +229,7 @@ fn fulfil<S: Source, K: Sink, F: Fabric>(
         × (((notice : Notice) → request.now ≢ Request.Print notice) → (sink.new ≡ sink.old) × (result.1 ≡ Err SessionFault.OutOfMemory)) }
 {
     match request {
-        Request::Print(notice) => (None, print(alloc, *notice, sink)),
+        Request::Print(notice) => (None, print(alloc, *notice, sink), Vec::new(alloc)),
         Request::Run(setup) => run_setup(alloc, setup, source, sink, fabric),
     }
 }
@@ -248,7 +257,7 @@ pub fn run<S: Source, K: Sink, E: Sink, F: Fabric>(
     ensures told { (notice : Notice) → notice_in words.now ≡ Some notice → (result.world ≡ None) × HasTold notice result.status (K.held sink.old) (K.held sink.new) }
     ensures did { let x = ports_of (S.left source.old) (S.taken source.old) (K.held sink.old) (S.faults source.old) (K.faults sink.old) (F.faults fabric) in
         let z = ports_of (S.left source.new) (S.taken source.new) (K.held sink.new) (S.faults source.new) (K.faults sink.new) (F.faults result.fabric) in
-        (setup : Setup) → request_in words.now ≡ Ok (Request.Run setup) → HasRun setup result.status result.world x z }
+        (setup : Setup) → request_in words.now ≡ Ok (Request.Run setup) → HasRun setup result.status result.cuts.items result.world x z }
     ensures unread { (setup : Setup) (line : _) → request_in words.now ≡ Ok (Request.Run setup) → task_line setup.task ≡ Some line → source.new ≡ source.old }
     ensures cause { let x = ports_of (S.left source.old) (S.taken source.old) (K.held sink.old) (S.faults source.old) (K.faults sink.old) (F.faults fabric) in
         let z = ports_of (S.left source.new) (S.taken source.new) (K.held sink.new) (S.faults source.new) (K.faults sink.new) (F.faults result.fabric) in
@@ -267,10 +276,11 @@ pub fn run<S: Source, K: Sink, E: Sink, F: Fabric>(
                 status: 1,
                 world: None,
                 fabric,
+                cuts: Vec::new(alloc),
             };
         }
     };
-    let (world, ended) = fulfil(alloc, &request, source, sink, &mut fabric);
+    let (world, ended, cuts) = fulfil(alloc, &request, source, sink, &mut fabric);
     let status = match ended {
         Ok(()) => 0,
         Err(fault) => {
@@ -283,5 +293,6 @@ pub fn run<S: Source, K: Sink, E: Sink, F: Fabric>(
         status,
         world,
         fabric,
+        cuts,
     }
 }

@@ -5,7 +5,7 @@ use Rattle.hpx_program.proofs.Served.{run_in, said, told_words}
 use Rattle.hpx_program.proofs.program.program.Goals as goal
 
 pub returns-in-Ok-clause-did : goal.returns-in-Ok-clause-did
-returns-in-Ok-clause-did g c = run_in c.run.result.world _ _ _ _ _ c.in-Ok.ensures (λ place bad. (c.run.ensures.refused place bad).1)
+returns-in-Ok-clause-did g c = run_in c.run.result.world _ _ _ _ _ _ c.in-Ok.ensures (λ place bad. (c.run.ensures.refused place bad).1)
     (λ notice asked. (c.run.ensures.told notice asked).0) c.run.ensures.did
 
 pub returns-in-Ok-clause-says : goal.returns-in-Ok-clause-says

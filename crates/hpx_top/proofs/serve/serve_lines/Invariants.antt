@@ -1,20 +1,22 @@
 use Rattle.std.proofs.Common.{◌≡◌, ◌+◌, ◌≤◌, [], false, length}
 use Rattle.hpx_journal.specs.Weights.{HasRoom}
 use Rattle.hpx_world.specs.Away.{IsCarrying}
+use Rattle.hpx_world.specs.Quiet.{NoneRuns}
 use Rattle.hpx_top.specs.Reader.{HasRead, bytes_left, lines_left}
 use Rattle.hpx_top.specs.Session.{rules, IsRested, IsHandling}
-use Rattle.hpx_top.proofs.session.serve_lines.Given as goal
+use Rattle.hpx_top.proofs.serve.serve_lines.Given as goal
 
 abbrev pub invariant-loop-reader : goal.invariant-loop-reader
 invariant-loop-reader g l =
     record {
       handling : IsHandling l.fn.console (rules l.fn.world) (g.S.Source.left l.fn.source)
           (lines_left (record { pending = []; read = 0; ended = false }) (g.S.Source.left l.fn.source))
-          (g.K.Sink.held l.fn.sink) l.reader (g.S.Source.left l.source) l.world.journal.entries (g.K.Sink.held l.sink);
+          (g.K.Sink.held l.fn.sink) l.reader (g.S.Source.left l.source) l.progress.held l.progress.cuts.items l.world.journal.entries (g.K.Sink.held l.sink);
       reads : HasRead (g.S.Source.left l.fn.source) l.reader (g.S.Source.left l.source);
       counted : l.reader.read + g.S.Source.taken l.fn.source ≡ g.S.Source.taken l.source;
       limit : l.reader.read ≤ 67108864;
-      rest : IsRested l.world;
+      rest : l.progress.held ≡ false → IsRested l.world;
+      jobs : NoneRuns l.world.nodes;
       profile : l.world.profile ≡ l.fn.world.profile;
       carrying : IsCarrying (rules l.world) l.world.hand (g.F.Fabric.flight l.fabric) (g.F.Fabric.trace l.fabric) l.world.journal.entries;
       count : length l.world.nodes ≡ length l.fn.world.nodes;

@@ -1,0 +1,5 @@
+pub mod Written
+pub mod Stepped
+pub mod Waits
+pub mod Turning
+pub mod Turned
