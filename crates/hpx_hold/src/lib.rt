@@ -2,6 +2,4 @@
 #![tactic(auto)]
 
 pub mod home;
-#[cfg(test)]
-mod tests;
 pub mod turns;
