@@ -113,10 +113,10 @@ begun_at {console} {telling} input entries old new u =
     theirs : (rest : List (List ℕ)) → u.left ≡ Some rest
         → (IsTheirs console telling entries u.lines u.text
         ⊎ (IsOfAll console telling entries u.lines u.text × (u.next ≡ []) × IfSome u.left (λ others. before_quit others ≡ []))
-        ⊎ ((u.lines ≡ []) × IsFront u.text (commands console)))
+        ⊎ ((u.lines ≡ []) × (u.next ≡ []) × IsFront u.text (commands console)))
         → (IsTheirs console telling entries u.lines u.text
         ⊎ (IsOfAll console telling entries u.lines u.text × (u.next ≡ []) × (before_quit rest ≡ []))
-        ⊎ ((u.lines ≡ []) × IsFront u.text (commands console)))
+        ⊎ ((u.lines ≡ []) × (u.next ≡ []) × IsFront u.text (commands console)))
     theirs rest is (inl t) = inl t
     theirs rest is (inr (inl a)) = inr (inl (a.0, a.1, subst (λ l. IfSome l (λ others. before_quit others ≡ [])) is a.2))
     theirs rest is (inr (inr n)) = inr (inr n)
@@ -132,8 +132,8 @@ begun_nothing {console} telling input entries old new empty same = record {
   lines = inr (ap lines_fed empty, refl);
   text = [];
   is = same ∙ sym (followed_nothing old);
-  theirs = inr (inr (refl, record { later = commands console; is = refl }));
-  almost = inr refl;
+  theirs = inr (inr (refl, refl, record { later = commands console; is = refl }));
+  almost = inr (refl, refl);
 }
 
 read_up_at : {console : UserConsole} {r : Rules} {ended held : Bool} {cuts : List ℕ} {old now : Option (List ℕ)} {entries : List Entry} (input : List ℕ) (reading : Reading) (left : Option (List ℕ))

@@ -91,10 +91,10 @@ module _ (console : UserConsole) (n : ℕ) (p : Profile) (cuts : List ℕ) (some
     theirs : (handled : List (List ℕ)) (A B : Type 0) (text : List ℕ) → none_own console handled ≡ false
         → (IsTheirs console (ByJournal (rules_of act_of n p) cuts) entries handled text
         ⊎ (IsOfAll console (ByJournal (rules_of act_of n p) cuts) entries handled text × A × B)
-        ⊎ ((handled ≡ []) × IsFront text (commands console)))
+        ⊎ ((handled ≡ []) × A × IsFront text (commands console)))
         → (IsTheirs console (ByOneSpace n) entries handled text
         ⊎ (IsOfAll console (ByOneSpace n) entries handled text × A × B)
-        ⊎ ((handled ≡ []) × IsFront text (commands console)))
+        ⊎ ((handled ≡ []) × A × IsFront text (commands console)))
     theirs handled A B text free (inl t) = inl (t.0, tells_all handled t.0 free t.1, t.2)
     theirs handled A B text free (inr (inl t)) = inr (inl ((t.0.0, tells_up handled t.0.0 free t.0.1, t.0.2), t.1, t.2))
     theirs handled A B text free (inr (inr t)) = inr (inr t)
@@ -102,15 +102,15 @@ module _ (console : UserConsole) (n : ℕ) (p : Profile) (cuts : List ℕ) (some
     count : (handled : List (List ℕ)) (A B : Type 0) (text : List ℕ)
         → (IsTheirs console (ByJournal (rules_of act_of n p) cuts) entries handled text
         ⊎ (IsOfAll console (ByJournal (rules_of act_of n p) cuts) entries handled text × A × B)
-        ⊎ ((handled ≡ []) × IsFront text (commands console))) → length handled ≤ 67108865
+        ⊎ ((handled ≡ []) × A × IsFront text (commands console))) → length handled ≤ 67108865
     count handled A B text (inl t) = omega (arith, t.1.1, many)
     count handled A B text (inr (inl t)) = omega (arith, t.0.1.count, many)
     count handled A B text (inr (inr t)) = omega (arith, ap length t.0)
 
-    almost : (handled : List (List ℕ)) (text : List ℕ) → length handled ≤ 67108865 → none_own console handled ≡ false
-        → AllButOne console (ByJournal (rules_of act_of n p) cuts) entries handled text ⊎ (handled ≡ []) → AllButOne console (ByOneSpace n) entries handled text ⊎ (handled ≡ [])
-    almost handled text short free (inr none) = inr none
-    almost handled text short free (inl a) = inl (record {
+    almost : (handled : List (List ℕ)) (A : Type 0) (text : List ℕ) → length handled ≤ 67108865 → none_own console handled ≡ false
+        → AllButOne console (ByJournal (rules_of act_of n p) cuts) entries handled text ⊎ A → AllButOne console (ByOneSpace n) entries handled text ⊎ A
+    almost handled A text short free (inr none) = inr none
+    almost handled A text short free (inl a) = inl (record {
       done = a.done;
       last = a.last;
       parts = a.parts;
@@ -134,7 +134,7 @@ module _ (console : UserConsole) (n : ℕ) (p : Profile) (cuts : List ℕ) (some
           text = b.text;
           is = b.is;
           theirs = theirs b.handled (b.next ≡ []) (b.later ≡ []) b.text free b.theirs;
-          almost = almost b.handled b.text (count b.handled (b.next ≡ []) (b.later ≡ []) b.text b.theirs) free b.almost;
+          almost = almost b.handled ((b.handled ≡ []) × (b.next ≡ [])) b.text (count b.handled (b.next ≡ []) (b.later ≡ []) b.text b.theirs) free b.almost;
         }
 
 -- what was written begins the text of the whole input
@@ -151,7 +151,7 @@ begins_plainly console n input entries old new b = record { text = b.text; is = 
 
     front : (IsTheirs console (ByOneSpace n) entries b.handled b.text
         ⊎ (IsOfAll console (ByOneSpace n) entries b.handled b.text × (b.next ≡ []) × (b.later ≡ []))
-        ⊎ ((b.handled ≡ []) × IsFront b.text (commands console)))
+        ⊎ ((b.handled ≡ []) × (b.next ≡ []) × IsFront b.text (commands console)))
         → IsFront b.text (commands console ++ (lines_text console n (lines_of input) ++ prompt))
     front (inl t) =
         front_then b.text (commands console ++ (lines_text console n b.handled ++ prompt)) (commands console ++ (lines_text console n (lines_of input) ++ prompt))
@@ -160,7 +160,7 @@ begins_plainly console n input entries old new b = record { text = b.text; is = 
         front_then b.text (commands console ++ (lines_text console n b.handled ++ prompt)) (commands console ++ (lines_text console n (lines_of input) ++ prompt))
         (subst (λ x. IsFront b.text (commands console ++ x)) t.0.1 t.0.2) grows
     front (inr (inr t)) =
-        front_then b.text (commands console) (commands console ++ (lines_text console n (lines_of input) ++ prompt)) t.1
+        front_then b.text (commands console) (commands console ++ (lines_text console n (lines_of input) ++ prompt)) t.2
         (record { later = lines_text console n (lines_of input) ++ prompt; is = refl })
 
 -- ---- a whole run

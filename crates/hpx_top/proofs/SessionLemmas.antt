@@ -359,8 +359,8 @@ under_start {console} telling all before now entries empty w = record {
   journal = inr (ap lines_fed empty, refl);
   text = w.front;
   written = w.held;
-  theirs = inr (inr (refl, w.begins));
-  almost = inr refl;
+  theirs = inr (inr (refl, refl, w.begins));
+  almost = inr (refl, refl);
 }
 
 -- the text of these lines was written, and more behind it
@@ -561,8 +561,8 @@ under_opening {console} telling all before now entries c = record {
   journal = opened c.journal;
   text = commands console;
   written = c.written;
-  theirs = inr (inr (refl, front_all (commands console)));
-  almost = inr refl;
+  theirs = inr (inr (refl, refl, front_all (commands console)));
+  almost = inr (refl, refl);
 }
   where
     opened : (lines_fed entries ≡ []) ⊎ (lines_fed entries ≡ opening ∷ []) → HasFed console [] entries

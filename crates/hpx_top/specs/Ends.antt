@@ -62,7 +62,7 @@ pub record IsBrokenAtOpening (console : UserConsole) (entries : List Entry) (old
   pub text : new ≡ followed old (commands console)
 
 -- The first lines of the input were handled, and of the next at most one was begun. What was written is a front of their text, whole for
--- all of them but the last; or none was handled.
+-- all of them but the last; or no line was handled or begun.
 pub record IsBegun (console : UserConsole) (telling : Telling) (input : List ℕ) (entries : List Entry) (old new : Option (List ℕ)) : Type 0 where
   pub handled : List (List ℕ)
   pub next : List (List ℕ)
@@ -74,8 +74,8 @@ pub record IsBegun (console : UserConsole) (telling : Telling) (input : List ℕ
   pub is : new ≡ followed old text
   pub theirs : IsTheirs console telling entries handled text
       ⊎ (IsOfAll console telling entries handled text × (next ≡ []) × (later ≡ []))
-      ⊎ ((handled ≡ []) × IsFront text (commands console))
-  pub almost : AllButOne console telling entries handled text ⊎ (handled ≡ [])
+      ⊎ ((handled ≡ []) × (next ≡ []) × IsFront text (commands console))
+  pub almost : AllButOne console telling entries handled text ⊎ ((handled ≡ []) × (next ≡ []))
 
 -- The first bytes of the input were read, as many as the count of the source rose by, and the others are left.
 pub record IsReadFrom (input : List ℕ) (left : Option (List ℕ)) (before after : ℕ) : Type 0 where

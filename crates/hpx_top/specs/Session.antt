@@ -276,8 +276,8 @@ pub record IsUnderWay (console : UserConsole) (telling : Telling) (all : Option 
   pub written : now ≡ followed before text
   pub theirs : IsTheirs console telling entries lines text
       ⊎ (IsOfAll console telling entries lines text × (next ≡ []) × IfSome left (λ others. before_quit others ≡ []))
-      ⊎ ((lines ≡ []) × IsFront text (commands console))
-  pub almost : AllButOne console telling entries lines text ⊎ (lines ≡ [])
+      ⊎ ((lines ≡ []) × (next ≡ []) × IsFront text (commands console))
+  pub almost : AllButOne console telling entries lines text ⊎ ((lines ≡ []) × (next ≡ []))
 
 -- the bytes that may be read were read, and behind the lines that were handled they hold no whole line
 pub record IsStopped (all : Option (List (List ℕ))) (reading : Reading) (left : Option (List ℕ)) : Type 0 where
