@@ -1,4 +1,5 @@
 ghost use Rattle.std.specs.Prelude.{◌≡◌, ◌≢◌, ◌⊎◌, [], Some, None, IfSome, ℕ, codes};
+ghost use Rattle.std.specs.Process.{exit_status};
 ghost use Rattle.hpx_options.specs.Texts.{bad_word_text};
 ghost use Rattle.hpx_top.specs.Printed.{HasTold};
 ghost use Rattle.hpx_top.specs.Runs.{ports_of, HasCause, NothingFailed, Says};
@@ -10,13 +11,27 @@ use hpx_ports::fabric::Fabric;
 use hpx_ports::sink::{Sink, write_all};
 use hpx_ports::source::Source;
 use hpx_ports::words::{Words, all_words};
-use hpx_top::run::{End, run};
+use hpx_top::acts::AllActs;
+use hpx_top::run::run;
 use hpx_top::task::Notice;
 use hpx_value::memory::OutOfMemory;
+use hpx_world::world::World;
 use std::alloc::Global;
+use std::process::ExitCode;
 
 /// The status where there is no memory for the words.
 const OUT_OF_MEMORY: u8 = 6;
+
+/// How the program ended: the status, what its process ends with, the world where one was booted, the fabric, and the cuts of the
+/// session, as `hpx_top::run::End` has them.
+#[derive(Drop)]
+pub struct Ended<F: Fabric> {
+    pub status: u8,
+    pub code: ExitCode,
+    pub world: Option<World<AllActs>>,
+    pub fabric: F,
+    pub cuts: Vec<u64>,
+}
 
 /// Says that there is no memory for the words. Where that fails, nothing comes of it but the front of the line.
 fn say_no_memory<E: Sink>(err: &mut E)
@@ -38,10 +53,11 @@ pub fn program<W: Words, S: Source, K: Sink, E: Sink, F: Fabric>(
     sink: &mut K,
     err: &mut E,
     fabric: F,
-) -> End<F>
+) -> Ended<F>
     requires flight { F.flight fabric ≡ Some [] }
     requires trace { F.trace fabric ≡ Some [] }
 
+    ensures code { exit_status result.code ≡ result.status }
     ensures refused { (words : _) (place : ℕ) → W.words given.now ≡ Some words → bad_word words ≡ Some place → (result.world ≡ None)
         × ((result.status ≡ 6) ⊎ ((result.status ≡ 1) × Says (bad_word_text place) (record { text = E.held err.old; faults = E.faults err.old })
         (record { text = E.held err.new; faults = E.faults err.new }))) }
@@ -66,11 +82,21 @@ pub fn program<W: Words, S: Source, K: Sink, E: Sink, F: Fabric>(
         IfSome result.world (λ w. HasRunAsAsked (W.words given.now) result.status result.cuts.items w x z) }
 {
     match all_words(alloc, given) {
-        Ok(words) => run(alloc, &words, source, sink, err, fabric),
+        Ok(words) => {
+            let end = run(alloc, &words, source, sink, err, fabric);
+            Ended {
+                status: end.status,
+                code: ExitCode::from(end.status),
+                world: end.world,
+                fabric: end.fabric,
+                cuts: end.cuts,
+            }
+        }
         Err(OutOfMemory) => {
             say_no_memory(err);
-            End {
+            Ended {
                 status: OUT_OF_MEMORY,
+                code: ExitCode::from(OUT_OF_MEMORY),
                 world: None,
                 fabric,
                 cuts: Vec::new(alloc),
