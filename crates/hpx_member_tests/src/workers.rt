@@ -99,12 +99,12 @@ fn ran<R: Wait>(
 
 // How many frames were sent to the console, and the words, one behind the other.
 fn said(alloc: Global, link: &MemLink) -> Result<(usize, Vec<u8>), AllocError> {
-    let mut frames = 0;
+    let mut frames: usize = 0;
     let mut words = Vec::new(alloc);
     for post in link.trace() {
         if let Post::Sent { to: 0, body } = post {
             match body.as_slice() {
-                [1, ..] => frames += 1,
+                [1, ..] => frames = frames.saturating_add(1),
                 word => words.extend_from_slice(word)?,
             }
         }
@@ -131,7 +131,7 @@ fn a_worker_answers_waves_until_the_end(rt: HostRuntime) -> Result<(), Fail> {
         row_of(
             &[(0, WAVE_7), (0, ASK), (0, WAVE_8), (0, END)],
             0,
-            6,
+            5,
             1,
             &[NONE_7, ONE_8],
         ),
