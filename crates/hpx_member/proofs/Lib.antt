@@ -1,0 +1,10 @@
+pub mod Frames
+pub mod Grown
+pub mod Calls
+pub mod Written
+pub mod Turned
+pub mod Seated
+pub mod Heeded
+pub mod Feeding
+pub mod Causes
+pub mod Ended

@@ -1,0 +1,5 @@
+pub mod Bodies
+pub mod Seats
+pub mod Stops
+pub mod Words
+pub mod Feeding

@@ -1,0 +1,9 @@
+//! A member of several processes: one locality over a link to the others.
+#![tactic(auto)]
+
+pub mod bodies;
+pub mod end;
+mod seat;
+pub mod stop;
+mod turn;
+pub mod worker;
