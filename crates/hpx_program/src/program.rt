@@ -67,6 +67,7 @@ pub fn program<W: Words, S: Source, K: Sink, E: Sink, F: Fabric>(
     ensures silent { result.status ≡ 0 → err.new ≡ err.old }
     ensures no_other { IsStatus result.status }
     ensures none { result.world ≡ None → (source.new ≡ source.old) × (result.fabric ≡ fabric) }
+    ensures uncut { result.world ≡ None → result.cuts.items ≡ [] }
     ensures untouched { (words : _) → W.words given.now ≡ Some words → notice_in words ≡ None → result.world ≡ None →
         (sink.new ≡ sink.old) × ((result.status ≡ 1) ⊎ (result.status ≡ 6)) }
     ensures told { (words : _) (notice : Notice) → W.words given.now ≡ Some words → notice_in words ≡ Some notice → (result.world ≡ None)

@@ -37,7 +37,7 @@ pub struct End<F: Fabric> {
     pub status: u8,
     pub world: Option<World<AllActs>>,
     pub fabric: F,
-    /// How long the journal was behind each line of the console that was handled.
+    /// How long the journal was behind each line of the console that was handled; empty without a world.
     pub cuts: Vec<u64>,
 }
 
@@ -99,6 +99,7 @@ fn serve_all<S: Source, K: Sink, F: Fabric>(
     ensures ended { OnOk result.1 (IfSome result.0 HasEnded) }
     ensures none { result.0 ≡ None → result.1 ≡ Err SessionFault.OutOfMemory }
     ensures untouched { result.0 ≡ None → (source.new ≡ source.old) × (sink.new ≡ sink.old) × (fabric.new ≡ fabric.old) }
+    ensures uncut { result.0 ≡ None → result.2.items ≡ [] }
 {
     let mut world = match World::boot(alloc, AllActs { localities }, profile) {
         Ok(world) => world,
@@ -134,6 +135,7 @@ fn run_task<S: Source, K: Sink, F: Fabric>(
     ensures ended { OnOk result.1 (IfSome result.0 HasEnded) }
     ensures none { result.0 ≡ None → result.1 ≡ Err SessionFault.OutOfMemory }
     ensures untouched { result.0 ≡ None → (source.new ≡ source.old) × (sink.new ≡ sink.old) × (fabric.new ≡ fabric.old) }
+    ensures uncut { result.0 ≡ None → result.2.items ≡ [] }
 {
     let (localities, profile) = (setup.localities, setup.profile);
     match work_of(alloc, setup.task) {
@@ -191,6 +193,7 @@ fn run_setup<S: Source, K: Sink, F: Fabric>(
     ensures ended { OnOk result.1 (IfSome result.0 HasEnded) }
     ensures none { result.0 ≡ None → result.1 ≡ Err SessionFault.OutOfMemory }
     ensures untouched { result.0 ≡ None → (source.new ≡ source.old) × (sink.new ≡ sink.old) × (fabric.new ≡ fabric.old) }
+    ensures uncut { result.0 ≡ None → result.2.items ≡ [] }
 {
     let (world, done, cuts) = run_task(alloc, setup, source, sink, fabric);
     let counted = match done {
@@ -227,6 +230,7 @@ fn fulfil<S: Source, K: Sink, F: Fabric>(
     ensures there { result.1 ≡ Err SessionFault.JournalFull → result.0 ≢ None }
     ensures none { result.0 ≡ None → (source.new ≡ source.old) × (fabric.new ≡ fabric.old)
         × (((notice : Notice) → request.now ≢ Request.Print notice) → (sink.new ≡ sink.old) × (result.1 ≡ Err SessionFault.OutOfMemory)) }
+    ensures uncut { result.0 ≡ None → result.2.items ≡ [] }
 {
     match request {
         Request::Print(notice) => (None, print(alloc, *notice, sink), Vec::new(alloc)),
@@ -254,6 +258,7 @@ pub fn run<S: Source, K: Sink, E: Sink, F: Fabric>(
     ensures no_other { IsStatus result.status }
     ensures none { result.world ≡ None → (source.new ≡ source.old) × (result.fabric ≡ fabric)
         × (notice_in words.now ≡ None → (sink.new ≡ sink.old) × ((result.status ≡ 1) ⊎ (result.status ≡ 6))) }
+    ensures uncut { result.world ≡ None → result.cuts.items ≡ [] }
     ensures told { (notice : Notice) → notice_in words.now ≡ Some notice → (result.world ≡ None) × HasTold notice result.status (K.held sink.old) (K.held sink.new) }
     ensures did { let x = ports_of (S.left source.old) (S.taken source.old) (K.held sink.old) (S.faults source.old) (K.faults sink.old) (F.faults fabric) in
         let z = ports_of (S.left source.new) (S.taken source.new) (K.held sink.new) (S.faults source.new) (K.faults sink.new) (F.faults result.fabric) in
