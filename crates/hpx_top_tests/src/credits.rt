@@ -13,6 +13,7 @@ fn told(alloc: Global, ended: Ended) -> Result<(String, Vec<u8>), OutOfMemory> {
         text: _,
         line: _,
         world,
+        cuts: _,
         mut fabric,
     } = ended;
     let Some(mut world) = world else {

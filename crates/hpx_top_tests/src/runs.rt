@@ -36,13 +36,15 @@ pub const NONE: Faults = Faults {
     delivers: &[],
 };
 
-/// A run that has ended: its status, what was written, what was written for errors, its world, and the fabric.
+/// A run that has ended: its status, what was written, what was written for errors, its world, how long the journal was behind
+/// each line, and the fabric.
 #[derive(Drop)]
 pub struct Ended {
     pub status: u8,
     pub text: Vec<u8>,
     pub line: Vec<u8>,
     pub world: Option<World<AllActs>>,
+    pub cuts: Vec<u64>,
     pub fabric: MemFabric,
 }
 
@@ -108,6 +110,7 @@ pub fn ran(
         text: Vec::from_slice(alloc, sink.bytes())?,
         line: Vec::from_slice(alloc, err.bytes())?,
         world: end.world,
+        cuts: end.cuts,
         fabric: end.fabric,
     })
 }

@@ -27,7 +27,7 @@ fn session(alloc: Global, row: &Row, order: Order) -> Result<Ended, OutOfMemory>
 }
 
 /// A text without its prompts. Nothing else that is printed has a `>`.
-fn without_prompts(alloc: Global, text: &[u8]) -> Result<Vec<u8>, OutOfMemory> {
+pub fn without_prompts(alloc: Global, text: &[u8]) -> Result<Vec<u8>, OutOfMemory> {
     let mut rest = Vec::new(alloc);
     for piece in text.split(|b| *b == b'>') {
         rest.extend_from_slice(piece.strip_prefix(b" ").unwrap_or(piece))?;
@@ -36,7 +36,7 @@ fn without_prompts(alloc: Global, text: &[u8]) -> Result<Vec<u8>, OutOfMemory> {
 }
 
 /// How often a byte is there.
-fn count(text: &[u8], byte: u8) -> usize {
+pub fn count(text: &[u8], byte: u8) -> usize {
     text.iter().filter(|b| **b == byte).count()
 }
 
