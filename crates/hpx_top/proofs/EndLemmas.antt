@@ -151,9 +151,9 @@ read_up_at {console} {r} {ended} {held} {cuts} {old} {now} {entries} input readi
         let count : length input ≡ length h.front + length read.0 = ap length read.2 ∙ length-append h.front read.0 in
         inr (read.1 ∙ ap (λ xs. Some xs) none, omega (arith, count, ap length none, h.count, h.below (same ∙ e)))
 
-pub read_on_at : (n : ℕ) (input : List ℕ) (reading : Reading) (left : Option (List ℕ)) → IsStopped (Some (lines_in (slice_split is_newline input))) reading left
-    → HasRead (Some input) reading left → reading.read ≡ n → IsReadOn n input left
-read_on_at n input reading left s h all =
+pub read_on_at : (n many : ℕ) (input : List ℕ) (reading : Reading) (left : Option (List ℕ)) → IsStopped many (Some (lines_in (slice_split is_newline input))) reading left
+    → HasRead (Some input) reading left → reading.read ≡ n → IsReadOn n many input left
+read_on_at n many input reading left s h all =
     let read = told_rest input h.front left h.next in
     let still : lines_left reading left ≡ Some (lines_in (slice_split is_newline (reading.pending ++ read.0)))
     = ap (λ b. lines_left (record reading { ended = b }) left) s.goes_on
@@ -167,6 +167,7 @@ read_on_at n input reading left s h all =
       left_is = read.1;
       count = h.count ∙ all;
       lines = s.lines;
+      many_are = s.many;
       piece = reading.pending;
       goes_on = s.handled.goes_on;
       no_line = s.no_line;
@@ -346,10 +347,10 @@ read_up_from {console} {r} {ended} {held} {cuts} {old} {now} {entries} input lef
     read_up_at input reading rest (subst (λ all. IsOver console r ended all old held cuts entries now) (told input left h) o)
     (subst (λ all. HasRead all reading rest) h read) same
 
-pub read_on_from : (n : ℕ) (input : List ℕ) (left rest : Option (List ℕ)) (reading : Reading) → left ≡ Some input → IsStopped (all_lines left) reading rest
-    → HasRead left reading rest → reading.read ≡ n → IsReadOn n input rest
-read_on_from n input left rest reading h stopped read count =
-    read_on_at n input reading rest (subst (λ all. IsStopped all reading rest) (told input left h) stopped) (subst (λ all. HasRead all reading rest) h read) count
+pub read_on_from : (n many : ℕ) (input : List ℕ) (left rest : Option (List ℕ)) (reading : Reading) → left ≡ Some input → IsStopped many (all_lines left) reading rest
+    → HasRead left reading rest → reading.read ≡ n → IsReadOn n many input rest
+read_on_from n many input left rest reading h stopped read count =
+    read_on_at n many input reading rest (subst (λ all. IsStopped many all reading rest) (told input left h) stopped) (subst (λ all. HasRead all reading rest) h read) count
 
 pub read_from : (input : List ℕ) (left rest : Option (List ℕ)) (reading : Reading) (before after : ℕ) → left ≡ Some input → HasRead left reading rest
     → after ≡ before + reading.read → IsReadFrom input rest before after

@@ -237,13 +237,19 @@ line_left {console} {line} {cuts} {cuts'} r held held' f old new before now (inr
 pub begun_none : {console : UserConsole} {line : List ℕ} (entries : List Entry) → HasBegun console line entries entries
 begun_none {console} {line} entries = record { more = []; is = sym (append-nil entries); once = inl refl }
 
--- nothing was fed
-pub begun_unfed : {console : UserConsole} {line : List ℕ} {old new : List Entry} → IsUnfed old new → HasBegun console line old new
-begun_unfed {console} {line} {old} {new} u = record { more = u.more; is = u.is; once = inl (none_fed u.more u.unfed) }
-
 -- how a line that is not too long is handled
 pub how_is : (console : UserConsole) (line : List ℕ) → is_long line ≡ false → (h : Handled) → handled_as (owns console) line ≡ h → how console line ≡ Typed h
 how_is console line short h is = ap (λ b. if b then TooLong else Typed (handled_as (owns console) line)) short ∙ ap (λ x. Typed x) is
+
+-- a line that is not fed
+pub begun_unfed : {console : UserConsole} {line : List ℕ} {old new : List Entry} (h : Handled) → is_long line ≡ false → handled_as (owns console) line ≡ h → is_fed (Typed h) ≡ false
+    → IsUnfed old new → HasBegun console line old new
+begun_unfed {console} {line} {old} {new} h short so not u = record { more = u.more; is = u.is; once = inr (none_fed u.more u.unfed ∙ sym none) }
+  where
+    none : fed_lines console (line ∷ []) ≡ []
+    none =
+        ap (λ w. if is_fed w then (mark_of console ∷ line) ∷ [] else []) (how_is console line short h so)
+        ∙ ap (λ b. if b then (mark_of console ∷ line) ∷ [] else []) not
 
 -- a line was fed
 pub begun_fed_line : {console : UserConsole} {line : List ℕ} {old new : List Entry} → is_long line ≡ false → handled_as (owns console) line ≡ Fed

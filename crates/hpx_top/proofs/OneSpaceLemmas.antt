@@ -1,7 +1,7 @@
 -- What the journal tells of lines that are fed, or too long, is what one plain space says.
 use Rattle.std.specs.Prelude.{IfSome}
 use Rattle.std.specs.List.{concat}
-use Rattle.std.proofs.Common.{ℕ, true, false, List, [], ◌∷◌, ◌++◌, ◌≡◌, ◌≤◌, ◌⊎◌, length, Option, Some, None, refl, sym, ap, ◌∙◌, subst, inl, inr, arith, append-nil, append_assoc, length-append}
+use Rattle.std.proofs.Common.{ℕ, true, false, List, [], ◌∷◌, ◌++◌, ◌≡◌, ◌-◌, ◌≤◌, ◌⊎◌, length, Option, Some, None, refl, sym, ap, ◌∙◌, subst, inl, inr, arith, append-nil, append_assoc, length-append}
 use Rattle.hpx_value.specs.declared.profile.Profile.{Profile}
 use Rattle.hpx_journal.specs.declared.entry.Entry.{Entry}
 use Rattle.hpx_journal.specs.Whole.{IsLegal}
@@ -14,7 +14,7 @@ use Rattle.hpx_top.specs.Acts.{act_of}
 use Rattle.hpx_top.specs.declared.consoles.UserConsole.{UserConsole}
 use Rattle.hpx_top.specs.Texts.{commands, lines_text}
 use Rattle.hpx_top.specs.Session.{entries_in, ByJournal, ByOneSpace, Tells, TellsAll, TellsUp, TellsNone, AllButOne, IsTheirs, IsOfAll}
-use Rattle.hpx_top.specs.Ends.{IsWhole, IsBroken, IsBrokenOff, IsBrokenIn, IsBrokenAtEnd, IsBrokenAtOpening, IsBegun, IsShort}
+use Rattle.hpx_top.specs.Ends.{IsWhole, IsBroken, IsBrokenOff, IsBrokenIn, IsBrokenAtEnd, IsBrokenAtOpening, IsBegun, IsReadOn, IsShort}
 use Rattle.hpx_top.specs.Runs.{Ports, HasServed, BeginsPlainly}
 use Rattle.hpx_top.proofs.LineLemmas.{front_then, text_front}
 use Rattle.hpx_top.proofs.PartLemmas.{none_own, owns_less, plain_free, told_plainly}
@@ -174,6 +174,7 @@ begins_plainly console n input entries old new b = record { text = b.text; is = 
 pub served_plainly : (console : UserConsole) (n : ℕ) (p : Profile) (s : ℕ) (cuts : List ℕ) (input : List ℕ) (o : Option Places) (x z : Ports) → 1 ≤ n → n ≤ 64
     → length cuts ≤ 67108865 → IsLegal (rules_of act_of n p) (entries_in o) → NoneFails (entries_in o) → none_own console (lines_of input) ≡ false
     → HasServed console (ByJournal (rules_of act_of n p) cuts) s input o x z → HasServed console (ByOneSpace n) s input o x z × BeginsPlainly console n input x.text z.text
+unfolding broken_off
 served_plainly console n p s cuts input o x z some few many legal calm own h =
     let plain = begun console n p cuts some few many (entries_in o) legal calm input own x.text z.text h.begun in (
       record {
@@ -181,15 +182,17 @@ served_plainly console n p s cuts input o x z some few many legal calm own h =
         whole = λ ok. whole console n p cuts some few many (entries_in o) legal calm input own x.text z.text (h.whole ok);
         read_up = h.read_up;
         begun = plain;
-        between_lines = λ why. broken_off console n p cuts some few many (entries_in o) legal calm input own 0 x.text z.text (h.between_lines why);
+        between_lines = λ why. off (h.between_lines why);
         refused = λ why. broken console n p cuts some few many (entries_in o) legal calm input own z.left x.text z.text (h.refused why);
         short = λ six. short_in o legal calm (h.short six);
-        read_on = h.read_on;
-        full = h.full;
       },
       begins_plainly console n input (entries_in o) x.text z.text plain,
     )
   where
+    off : (b : IsBrokenOff console (ByJournal (rules_of act_of n p) cuts) 0 input (entries_in o) x.text z.text) × (IsReadOn (z.taken - x.taken) (length b.handled) input z.left)
+        → (b : IsBrokenOff console (ByOneSpace n) 0 input (entries_in o) x.text z.text) × (IsReadOn (z.taken - x.taken) (length b.handled) input z.left)
+    off b = (broken_off console n p cuts some few many (entries_in o) legal calm input own 0 x.text z.text b.0, b.1)
+
     short_in : (o : Option Places) → IsLegal (rules_of act_of n p) (entries_in o) → NoneFails (entries_in o)
         → IfSome o (λ w. IsShort console (ByJournal (rules_of act_of n p) cuts) input z.left w.journal.entries x.text z.text)
         → IfSome o (λ w. IsShort console (ByOneSpace n) input z.left w.journal.entries x.text z.text)

@@ -1,7 +1,7 @@
 -- What is telling of faults, telling of statuses.
 use Rattle.std.specs.Prelude.{Result, Ok, Err, OnOk, IfErr, IfSome, ⊤, ◌≢◌, ◌==◌, if◌then◌else◌}
-use Rattle.std.proofs.Common.{ℕ, List, [], length, ◌≡◌, ◌≤◌, ◌+◌, ◌⊎◌, Option, Some, None, refl, sym, ap, subst, ◌∙◌, inl, inr, arith}
-use Rattle.hpx_journal.specs.Entries.{Frame}
+use Rattle.std.proofs.Common.{ℕ, List, [], length, ◌≡◌, ◌≤◌, ◌+◌, ◌-◌, ◌⊎◌, Option, Some, None, refl, sym, ap, subst, ◌∙◌, inl, inr, arith}
+use Rattle.hpx_journal.specs.Entries.{Frame, Rules}
 use Rattle.hpx_value.specs.declared.profile.Profile.{Profile}
 use Rattle.hpx_journal.specs.Pool.{NoneFails}
 use Rattle.hpx_journal.specs.Weights.{HasRoom}
@@ -16,9 +16,9 @@ use Rattle.hpx_ports.specs.Faults.{Rose}
 use Rattle.hpx_world.specs.Places.{Places}
 use Rattle.hpx_top.specs.declared.session.SessionFault.{SessionFault}
 use Rattle.hpx_top.specs.declared.session.SessionFault.TheVariants.{Read, Write, Fabric, JournalFull, OutOfMemory, BadFrame, Strange, InputFull}
-use Rattle.hpx_top.specs.Ends.{IsWhole, IsBegun, IsShort, IsEndedBy, IsReadFrom, IsReadUp, IsReadOn, IsInputFull}
+use Rattle.hpx_top.specs.Ends.{IsWhole, IsBegun, IsBrokenOff, IsShort, IsEndedBy, IsReadFrom, IsReadUp, IsReadOn}
 use Rattle.hpx_top.specs.Runs.{Ports, HasCause, HasEnded, HasServed, IsLawful, ports_of}
-use Rattle.hpx_top.specs.Session.{rules, IsRested, NoneRefused, Telling, TellsNone}
+use Rattle.hpx_top.specs.Session.{rules, IsRested, NoneRefused, Telling, TellsNone, ByJournal}
 use Rattle.hpx_top.specs.declared.consoles.UserConsole.{UserConsole}
 use Rattle.hpx_top.specs.Statuses.{IsStatus, status_after}
 use Rattle.hpx_top.proofs.EndLemmas.{begun_nothing, read_from_none}
@@ -131,28 +131,32 @@ no_status r n never s = never (at r n s)
 
 -- ---- texts
 
-pub served_of : {console : UserConsole} (telling : Telling) (r : Result ⊤ SessionFault) (w : Places) (input : List ℕ) (x z : Ports)
-    → IsReadFrom input z.left x.taken z.taken → OnOk r (IsWhole console telling input w.journal.entries x.text z.text) → OnOk r (IsReadUp input z.left)
-    → IsBegun console telling input w.journal.entries x.text z.text → IfErr r (λ f. IsEndedBy console f telling input z.left w.journal.entries x.text z.text)
-    → (r ≡ Err OutOfMemory → IsShort console telling input z.left w.journal.entries x.text z.text) → (r ≡ Err Read → (count : ℕ) × IsReadOn count input z.left)
-    → (r ≡ Err InputFull → IsInputFull input z.left) → HasServed console telling (status_after r) input (Some w) x z
-served_of {console} telling r w input x z reads whole read_up begun ended short read_on full =
-    let P : SessionFault → Type 0 = λ f. IsEndedBy console f telling input z.left w.journal.entries x.text z.text in
+pub served_of : {console : UserConsole} (rs : Rules) (cuts : List ℕ) (r : Result ⊤ SessionFault) (w : Places) (input : List ℕ) (x z : Ports)
+    → IsReadFrom input z.left x.taken z.taken → OnOk r (IsWhole console (ByJournal rs cuts) input w.journal.entries x.text z.text) → OnOk r (IsReadUp input z.left)
+    → IsBegun console (ByJournal rs cuts) input w.journal.entries x.text z.text
+    → IfErr r (λ f. IsEndedBy console f (ByJournal rs cuts) input z.left w.journal.entries x.text z.text)
+    → (r ≡ Err OutOfMemory → IsShort console (ByJournal rs cuts) input z.left w.journal.entries x.text z.text)
+    → ((r ≡ Err Read) ⊎ (r ≡ Err InputFull) → IsReadOn (z.taken - x.taken) (length cuts) input z.left)
+    → HasServed console (ByJournal rs cuts) (status_after r) input (Some w) x z
+served_of {console} rs cuts r w input x z reads whole read_up begun ended short read_on =
+    let P : SessionFault → Type 0 = λ f. IsEndedBy console f (ByJournal rs cuts) input z.left w.journal.entries x.text z.text in
     record {
       reads = reads;
       whole = λ s. ended_well r _ s whole;
       read_up = λ s. ended_well r _ s read_up;
       begun = begun;
-      between_lines = λ s. between s (λ two. by_status r P 2 two ended) (λ nine. by_status r P 9 nine ended);
+      between_lines = λ s. between s (λ two. tied (by_status r P 2 two ended) (read_on (inl (at r 2 two)))) (λ nine. tied (by_status r P 9 nine ended) (read_on (inr (at r 9 nine))));
       refused = λ s. between s (λ four. by_status r P 4 four ended) (λ five. by_status r P 5 five ended);
       short = λ s. short (at r 6 s);
-      read_on = λ s. read_on (at r 2 s);
-      full = λ s. full (at r 9 s);
     }
   where
     between : {A B C : Type 0} → A ⊎ B → (A → C) → (B → C) → C
     between (inl a) f g = f a
     between (inr b) f g = g b
+
+    tied : (b : IsBrokenOff console (ByJournal rs cuts) 0 input w.journal.entries x.text z.text) → IsReadOn (z.taken - x.taken) (length cuts) input z.left
+        → (b : IsBrokenOff console (ByJournal rs cuts) 0 input w.journal.entries x.text z.text) × (IsReadOn (z.taken - x.taken) (length b.handled) input z.left)
+    tied b on = (b, subst (λ many. IsReadOn (z.taken - x.taken) many input z.left) b.told.1 on)
 
 -- without a world, for want of memory, nothing was read or written
 pub served_none : {console : UserConsole} (telling : Telling) (r : Result ⊤ SessionFault) (input : List ℕ) (x : Ports) → r ≡ Err OutOfMemory → TellsNone telling → x.left ≡ Some input
@@ -165,8 +169,6 @@ served_none {console} telling r input x e uncut h = subst (λ q. HasServed conso
   between_lines = λ s. absurd (neither 6 2 9 (omega arith) (omega arith) s);
   refused = λ s. absurd (neither 6 4 5 (omega arith) (omega arith) s);
   short = λ s. tt;
-  read_on = λ s. absurd (omega arith);
-  full = λ s. absurd (omega arith);
 })
   where
     neither : (a b c : ℕ) → a ≢ b → a ≢ c → (a ≡ b) ⊎ (a ≡ c) → ⊥

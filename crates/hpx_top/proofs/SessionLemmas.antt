@@ -72,15 +72,15 @@ handled_fed {console} {r} {line} {held} {held'} {cuts} {cuts'} {old} {new} lines
     ∙ (ap (λ t. fed console lines ++ t) (does_fed r (mark_of console ∷ line) held (how console line) old h.part.entries h.does.did) ∙ sym (fed_append console lines line))))
 
 begun_fed : {console : UserConsole} {line : List ℕ} {old new : List Entry} (lines : List (List ℕ)) → lines_fed old ≡ fed console lines → HasBegun console line old new
-    → (lines_fed new ≡ fed console lines) ⊎ (lines_fed new ≡ fed console (lines ++ line ∷ []))
+    → (new ≡ old) ⊎ (lines_fed new ≡ fed console (lines ++ line ∷ []))
 begun_fed {console} {line} {old} {new} lines was h = by h.once
   where
-    grown : lines_fed new ≡ fed console lines ++ lines_fed h.more
-    grown = ap lines_fed h.is ∙ (lines_fed_append old h.more ∙ ap (λ t. t ++ lines_fed h.more) was)
-
-    by : (lines_fed h.more ≡ []) ⊎ (lines_fed h.more ≡ fed_lines console (line ∷ [])) → (lines_fed new ≡ fed console lines) ⊎ (lines_fed new ≡ fed console (lines ++ line ∷ []))
-    by (inl none) = inl (grown ∙ (ap (λ t. fed console lines ++ t) none ∙ append-nil (fed console lines)))
-    by (inr one) = inr (grown ∙ (ap (λ t. fed console lines ++ t) one ∙ sym (fed_append console lines line)))
+    by : (h.more ≡ []) ⊎ (lines_fed h.more ≡ fed_lines console (line ∷ [])) → (new ≡ old) ⊎ (lines_fed new ≡ fed console (lines ++ line ∷ []))
+    by (inl none) = inl (h.is ∙ (ap (λ t. old ++ t) none ∙ append-nil old))
+    by (inr one) = inr (
+        ap lines_fed h.is ∙ (lines_fed_append old h.more ∙ (ap (λ t. t ++ lines_fed h.more) was
+        ∙ (ap (λ t. fed console lines ++ t) one ∙ sym (fed_append console lines line))))
+        )
 
 pub fed_once : (text : List ℕ) (old new : List Entry) → IsFed text old new → lines_fed new ≡ lines_fed old ++ text ∷ []
 fed_once text old new f =
@@ -176,8 +176,13 @@ pub cut_line : {console : UserConsole} {r : Rules} {held : Bool} {cuts cuts' : L
 cut_line {console} {r} {held} {cuts} {cuts'} {line} all before now mid later reading next left rest old new s prompted takes l =
     by (begun_fed s.lines s.fed_are l.begun)
   where
-    told : IsTold console r cuts' new s.lines s.text
-    told = subst (λ cs. IsTold console r cs new s.lines s.text) (sym l.cut) (told_more l.begun.more l.begun.is s.told)
+    now_told : IsTold console r cuts' new s.lines s.text
+    now_told = subst (λ cs. IsTold console r cs new s.lines s.text) (sym l.cut) (told_more l.begun.more l.begun.is s.told)
+
+    same_told : new ≡ old → (t : IsTold console r cuts' new s.lines s.text) × (t.later ≡ [])
+    same_told same =
+        subst (λ cs. (t : IsTold console r cs new s.lines s.text) × (t.later ≡ [])) (sym l.cut)
+        (subst (λ es. (t : IsTold console r cuts es s.lines s.text) × (t.later ≡ [])) (sym same) (s.told, s.last))
 
     count : length cuts' ≡ length s.lines
     count = ap length l.cut ∙ s.count
@@ -185,22 +190,23 @@ cut_line {console} {r} {held} {cuts} {cuts'} {line} all before now mid later rea
     written : later ≡ followed before (commands console ++ (s.text ++ prompt))
     written = l.written ∙ held_prompt before now mid (commands console) s.text prompt s.written prompted
 
-    by : (lines_fed new ≡ fed console s.lines) ⊎ (lines_fed new ≡ fed console (s.lines ++ line ∷ [])) → IsCutAt console (length cuts) (ByJournal r cuts') 1 all before new later
-    by (inl same) = (
-      record {
-        lines = s.lines;
-        next = [];
-        left = lines_left reading left;
-        handled = hands_no_more all (lines_left reading left) s.lines s.handled;
-        few = omega arith;
-        journal = same ∙ ap (fed console) (sym (append-nil s.lines));
-        text = s.text;
-        told = (told, count);
-        ended = λ none. absurd (omega (arith, none));
-        written = written;
-      },
-      sym s.count,
-    )
+    by : (new ≡ old) ⊎ (lines_fed new ≡ fed console (s.lines ++ line ∷ [])) → IsCutAt console (length cuts) (ByJournal r cuts') 1 all before new later
+    by (inl same) =
+        let t = same_told same in (
+          record {
+            lines = s.lines;
+            next = [];
+            left = lines_left reading left;
+            handled = hands_no_more all (lines_left reading left) s.lines s.handled;
+            few = omega arith;
+            journal = ap lines_fed same ∙ (s.fed_are ∙ ap (fed console) (sym (append-nil s.lines)));
+            text = s.text;
+            told = (t.0, count);
+            ended = λ none. t.1;
+            written = written;
+          },
+          sym s.count,
+        )
     by (inr more) = (
       record {
         lines = s.lines;
@@ -210,8 +216,8 @@ cut_line {console} {r} {held} {cuts} {cuts'} {line} all before now mid later rea
         few = omega arith;
         journal = more;
         text = s.text;
-        told = (told, count);
-        ended = λ none. absurd (omega (arith, none));
+        told = (now_told, count);
+        ended = λ none. absurd (omega (arith, ap length none));
         written = written;
       },
       sym s.count,
@@ -228,11 +234,15 @@ cut_in {console} {r} {held} {cuts} {cuts'} {line} all before now mid later readi
   left = lines_left next rest;
   handled = hands_more all (lines_left reading left) (lines_left next rest) s.lines line s.handled takes.first takes.goes_on;
   short = short;
-  journal = begun_fed s.lines s.fed_are l.begun;
+  journal = fed_by (begun_fed s.lines s.fed_are l.begun);
   text = s.text;
   told = (subst (λ cs. IsTold console r cs new s.lines s.text) (sym l.cut) (told_more l.begun.more l.begun.is s.told), ap length l.cut ∙ s.count);
   written = l.written ∙ held_prompt before now mid (commands console) s.text prompt s.written prompted;
 }
+  where
+    fed_by : (new ≡ old) ⊎ (lines_fed new ≡ fed console (s.lines ++ line ∷ [])) → (lines_fed new ≡ fed console s.lines) ⊎ (lines_fed new ≡ fed console (s.lines ++ line ∷ []))
+    fed_by (inl same) = inl (ap lines_fed same ∙ s.fed_are)
+    fed_by (inr more) = inr more
 
 -- ---- the last prompt
 
@@ -294,9 +304,10 @@ over_quit {console} {r} {held} {cuts} ended all later before now mid reading lef
 
 pub stopped_read : {console : UserConsole} {r : Rules} {held : Bool} {cuts : List ℕ} (all : Option (List (List ℕ))) (before now : Option (List ℕ)) (reading next : Reading)
     (left rest : Option (List ℕ)) (entries : List Entry) → IsServing console r all before reading left held cuts entries now → IsPiece next.pending → next.ended ≡ false
-    → input_left next rest ≡ input_left reading left → IsStopped all next rest
+    → input_left next rest ≡ input_left reading left → IsStopped (length cuts) all next rest
 stopped_read {console} {r} {held} {cuts} all before now reading next left rest entries s no_line goes_on same = record {
   lines = s.lines;
+  many = sym s.count;
   handled = subst (λ o. HandsOut all o s.lines) (ap (option_map (λ input. lines_in (slice_split is_newline input))) (sym same)) s.handled;
   no_line = no_line;
   goes_on = goes_on;
@@ -304,7 +315,7 @@ stopped_read {console} {r} {held} {cuts} all before now reading next left rest e
 
 pub stopped_full : {console : UserConsole} {r : Rules} {held : Bool} {cuts : List ℕ} (all : Option (List (List ℕ))) (before now : Option (List ℕ)) (reading next : Reading)
     (left rest : Option (List ℕ)) (entries : List Entry) → IsServing console r all before reading left held cuts entries now → IsFull next
-    → input_left next rest ≡ input_left reading left → IsStopped all next rest
+    → input_left next rest ≡ input_left reading left → IsStopped (length cuts) all next rest
 stopped_full {console} {r} {held} {cuts} all before now reading next left rest entries s full same =
     stopped_read all before now reading next left rest entries s full.no_line full.goes_on same
 

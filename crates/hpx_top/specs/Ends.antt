@@ -31,7 +31,7 @@ pub record IsBrokenOff (console : UserConsole) (telling : Telling) (most : ℕ) 
   pub lines : lines_fed entries ≡ fed console (handled ++ next)
   pub text : List ℕ
   pub told : TellsAll console telling entries handled text
-  pub ended : most ≡ 0 → EndsThere console telling entries handled text told
+  pub ended : next ≡ [] → EndsThere console telling entries handled text told
   pub is : new ≡ followed old (commands console ++ (text ++ prompt))
 
 -- The first lines of the input were handled, and the text is theirs, with the prompt behind it. The next line, which is not
@@ -92,22 +92,19 @@ pub record IsReadFrom (input : List ℕ) (left : Option (List ℕ)) (before afte
 abbrev pub IsReadUp : List ℕ → Option (List ℕ) → Type 0
 IsReadUp input left = (quits input ≡ true) ⊎ ((left ≡ Some []) × (length input < 67108864))
 
--- So many bytes of the input were read. Behind lines of which none is a `quit`, they end in a piece without a newline.
-pub record IsReadOn (n : ℕ) (input : List ℕ) (left : Option (List ℕ)) : Type 0 where
+-- So many bytes of the input were read. Behind so many lines, of which none is a `quit`, they end in a piece without a newline.
+pub record IsReadOn (n many : ℕ) (input : List ℕ) (left : Option (List ℕ)) : Type 0 where
   pub front : List ℕ
   pub rest : List ℕ
   pub input_is : input ≡ front ++ rest
   pub left_is : left ≡ Some rest
   pub count : length front ≡ n
   pub lines : List (List ℕ)
+  pub many_are : length lines ≡ many
   pub piece : List ℕ
   pub goes_on : list_any is_quit lines ≡ false
   pub no_line : IsPiece piece
   pub lines_are : lines_in (slice_split is_newline input) ≡ lines ++ lines_in (slice_split is_newline (piece ++ rest))
-
--- 67,108,864 bytes of the input were read, and no `quit` among them
-abbrev pub IsInputFull : List ℕ → Option (List ℕ) → Type 0
-IsInputFull input left = IsReadOn 67108864 input left
 
 -- 67,108,864 bytes of the input were read, and behind so many lines no newline is among them
 pub record IsFullBehind (lines : ℕ) (input : List ℕ) (left : Option (List ℕ)) : Type 0 where

@@ -1,5 +1,5 @@
 -- What a run leaves: its world, and what it did with its ports, by the status that it ends with.
-use Rattle.std.specs.Prelude.{ℕ, false, Option, Some, IfSome, List, [], length, ◌≡◌, ◌≢◌, ◌⊎◌, ◌++◌, ◌+◌, ◌<◌, ◌≤◌}
+use Rattle.std.specs.Prelude.{ℕ, false, Option, Some, IfSome, List, [], length, ◌≡◌, ◌≢◌, ◌⊎◌, ◌++◌, ◌+◌, ◌-◌, ◌<◌, ◌≤◌}
 use Rattle.std.specs.List.{list_any}
 use Rattle.hpx_value.specs.declared.profile.Profile.{Profile}
 use Rattle.hpx_journal.specs.Entries.{Frame}
@@ -22,7 +22,7 @@ use Rattle.hpx_top.specs.declared.task.Task.{Task}
 use Rattle.hpx_top.specs.declared.task.Task.TheVariants.{Console}
 use Rattle.hpx_top.specs.declared.consoles.UserConsole.{UserConsole}
 use Rattle.hpx_top.specs.Computed.{HasComputed, task_line, task_texts}
-use Rattle.hpx_top.specs.Ends.{IsWhole, IsBroken, IsBrokenOff, IsBegun, IsShort, IsReadFrom, IsReadUp, IsReadOn, IsInputFull}
+use Rattle.hpx_top.specs.Ends.{IsWhole, IsBroken, IsBrokenOff, IsBegun, IsShort, IsReadFrom, IsReadUp, IsReadOn}
 use Rattle.hpx_top.specs.Session.{rules, entries_in, IsAmple, NoneRefused, AllGranted, AllDone, IsRested, Telling, ByJournal, ByOneSpace, WritesFront}
 use Rattle.hpx_top.specs.declared.task.Setup.{Setup}
 use Rattle.hpx_top.specs.Printed.{HasCounted}
@@ -85,11 +85,10 @@ pub record HasServed (console : UserConsole) (telling : Telling) (status : ℕ) 
   pub whole : status ≡ 0 → IsWhole console telling input (entries_in world) x.text z.text
   pub read_up : status ≡ 0 → IsReadUp input z.left
   pub begun : IsBegun console telling input (entries_in world) x.text z.text
-  pub between_lines : (status ≡ 2) ⊎ (status ≡ 9) → IsBrokenOff console telling 0 input (entries_in world) x.text z.text
+  pub between_lines : (status ≡ 2) ⊎ (status ≡ 9) → (b : IsBrokenOff console telling 0 input (entries_in world) x.text z.text)
+      × (IsReadOn (z.taken - x.taken) (length b.handled) input z.left)
   pub refused : (status ≡ 4) ⊎ (status ≡ 5) → IsBroken console telling input z.left (entries_in world) x.text z.text
   pub short : status ≡ 6 → IfSome world (λ w. IsShort console telling input z.left w.journal.entries x.text z.text)
-  pub read_on : status ≡ 2 → (count : ℕ) × IsReadOn count input z.left
-  pub full : status ≡ 9 → IsInputFull input z.left
 
 -- what was written begins what one plain space at n localities says of the whole input
 pub record BeginsPlainly (console : UserConsole) (n : ℕ) (input : List ℕ) (old new : Option (List ℕ)) : Type 0 where

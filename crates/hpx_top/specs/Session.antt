@@ -83,11 +83,11 @@ pub record IsFed (text : List ℕ) (old new : List Entry) : Type 0 where
 abbrev pub FeedsAtMost : List ℕ → List Entry → List Entry → Type 0
 FeedsAtMost text old new = (new ≡ old) ⊎ IsFed text old new
 
--- the journal grew, and a line was fed at most once, if it is one that is fed
+-- nothing was done; or the journal grew, and the line was fed, if it is one that is fed
 pub record HasBegun (console : UserConsole) (line : List ℕ) (old new : List Entry) : Type 0 where
   pub more : List Entry
   pub is : new ≡ old ++ more
-  pub once : (lines_fed more ≡ []) ⊎ (lines_fed more ≡ fed_lines console (line ∷ []))
+  pub once : (more ≡ []) ⊎ (lines_fed more ≡ fed_lines console (line ∷ []))
 
 -- what is fed for these lines was fed, or there are none and nothing was fed at all
 abbrev pub HasFed : UserConsole → List (List ℕ) → List Entry → Type 0
@@ -216,7 +216,7 @@ pub record IsCut (console : UserConsole) (telling : Telling) (most : ℕ) (all :
   pub journal : lines_fed entries ≡ fed console (lines ++ next)
   pub text : List ℕ
   pub told : TellsAll console telling entries lines text
-  pub ended : most ≡ 0 → EndsThere console telling entries lines text told
+  pub ended : next ≡ [] → EndsThere console telling entries lines text told
   pub written : now ≡ followed before (commands console ++ (text ++ prompt))
 
 -- so many were handled
@@ -292,9 +292,10 @@ pub record IsUnderWay (console : UserConsole) (telling : Telling) (all : Option 
       ⊎ ((lines ≡ []) × (next ≡ []) × TellsNone telling × IsFront text (commands console))
   pub almost : AllButOne console telling entries lines text ⊎ ((lines ≡ []) × (next ≡ []))
 
--- the bytes that may be read were read, and behind the lines that were handled they hold no whole line
-pub record IsStopped (all : Option (List (List ℕ))) (reading : Reading) (left : Option (List ℕ)) : Type 0 where
+-- behind so many lines, which were handled, the bytes that were read hold no whole line
+pub record IsStopped (count : ℕ) (all : Option (List (List ℕ))) (reading : Reading) (left : Option (List ℕ)) : Type 0 where
   pub lines : List (List ℕ)
+  pub many : length lines ≡ count
   pub handled : HandsOut all (lines_left reading left) lines
   pub no_line : IsPiece reading.pending
   pub goes_on : reading.ended ≡ false

@@ -1,5 +1,5 @@
 //! A session of a console: each line that is read is handled, and its text is written.
-ghost use Rattle.std.specs.Prelude.{◌≡◌, ◌≢◌, ◌≤◌, ◌<◌, ◌+◌, ◌⊎◌, ℕ, [], Ok, Err, Some, OnOk, IfErr, length, drop, true, false};
+ghost use Rattle.std.specs.Prelude.{◌≡◌, ◌≢◌, ◌≤◌, ◌<◌, ◌+◌, ◌-◌, ◌⊎◌, ℕ, [], Ok, Err, Some, OnOk, IfErr, length, drop, true, false};
 ghost use Rattle.std.specs.List.{concat};
 ghost use Rattle.std.specs.Option.{option_map};
 ghost use Rattle.hpx_journal.specs.Pool.{prints_of};
@@ -12,7 +12,7 @@ ghost use Rattle.hpx_world.specs.Steps.{IsUnfed};
 ghost use Rattle.app_console.specs.Lines.{is_long};
 ghost use Rattle.hpx_top.specs.Reader.{HasRead, IsOut, input_left, bytes_left, behind_line};
 ghost use Rattle.hpx_top.specs.Session.{rules, ByJournal, IsRested, IsLineEndedBy, IsServed, IsServing, IsCutAt, IsCutBy, IsEndCutBy, IsOver, IsStopped};
-ghost use Rattle.hpx_top.specs.Ends.{IsWhole, IsEndedBy, IsBegun, IsShort, IsReadFrom, IsReadUp, IsReadOn, IsInputFull};
+ghost use Rattle.hpx_top.specs.Ends.{IsWhole, IsEndedBy, IsBegun, IsShort, IsReadFrom, IsReadUp, IsReadOn};
 ghost use Rattle.hpx_top.specs.Runs.{ports_of, HasCause, HasServed};
 ghost use Rattle.hpx_top.specs.Statuses.{IsStatus, status_after};
 
@@ -133,7 +133,7 @@ fn serve_line<S: Source, K: Sink, F: Fabric>(
         IsCutBy console fault (ByJournal (rules world.old) progress.new.cuts.items) all before world.new.journal.entries (K.held sink.new)) }
     ensures input { (result ≡ Err SessionFault.InputFull) ⊎ (result ≡ Err SessionFault.Read) → (all : _) (before : _) →
         IsServing console (rules world.old) all before reader.old (S.left source.old) progress.old.held progress.old.cuts.items world.old.journal.entries (K.held sink.old) →
-        IsStopped all reader.new (S.left source.new) }
+        IsStopped (length progress.new.cuts.items) all reader.new (S.left source.new) }
     ensures reads { (all : _) → HasRead all reader.old (S.left source.old) → HasRead all reader.new (S.left source.new) }
     ensures counted { reader.new.read + S.taken source.old ≡ reader.old.read + S.taken source.new }
     ensures limit { reader.old.read ≤ 67108864 → reader.new.read ≤ 67108864 }
@@ -242,8 +242,8 @@ fn serve_lines<S: Source, K: Sink, F: Fabric>(
         IsShort console (ByJournal (rules world.old) progress.new.cuts.items) input (S.left source.new) world.new.journal.entries (K.held sink.old) (K.held sink.new) }
     ensures begun { (input : _) → S.left source.old ≡ Some input →
         IsBegun console (ByJournal (rules world.old) progress.new.cuts.items) input world.new.journal.entries (K.held sink.old) (K.held sink.new) }
-    ensures input { (input : _) → S.left source.old ≡ Some input → result ≡ Err SessionFault.InputFull → IsInputFull input (S.left source.new) }
-    ensures read_on { (input : _) → S.left source.old ≡ Some input → result ≡ Err SessionFault.Read → (n : ℕ) × IsReadOn n input (S.left source.new) }
+    ensures read_on { (input : _) → S.left source.old ≡ Some input → (result ≡ Err SessionFault.Read) ⊎ (result ≡ Err SessionFault.InputFull) →
+        IsReadOn (S.taken source.new - S.taken source.old) (length progress.new.cuts.items) input (S.left source.new) }
     ensures taken { result ≡ Err SessionFault.InputFull → S.taken source.new ≡ S.taken source.old + 67108864 }
     ensures few { length progress.new.cuts.items ≤ 67108865 }
 

@@ -1,12 +1,12 @@
 use Rattle.std.specs.Prelude.{Some}
-use Rattle.hpx_top.specs.Session.{rules, ByJournal}
+use Rattle.hpx_top.specs.Session.{rules}
 use Rattle.hpx_top.proofs.RunLemmas.{cause_of, served_of, status_is}
 use Rattle.hpx_top.proofs.serve.serve.Goals as goal
 
 pub returns-clause-served : goal.returns-clause-served
 returns-clause-served g c = let s = c.serve_lines-served.ensures in
-    λ input h. served_of (ByJournal (rules c.args.world.now) _) c.serve_lines-served.result c.serve_lines-served.new.world input _ _ (s.reads input h) (s.whole input h) (s.read_up input h)
-    (s.begun input h) (s.ended input h) (s.short input h) (s.read_on input h) (s.input input h)
+    λ input h. served_of (rules c.args.world.now) _ c.serve_lines-served.result c.serve_lines-served.new.world input _ _ (s.reads input h) (s.whole input h) (s.read_up input h)
+    (s.begun input h) (s.ended input h) (s.short input h) (s.read_on input h)
 
 pub returns-clause-cause : goal.returns-clause-cause
 returns-clause-cause g c = let s = c.serve_lines-served.ensures in

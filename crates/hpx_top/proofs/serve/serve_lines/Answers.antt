@@ -1,4 +1,7 @@
+use Rattle.std.specs.Prelude.{Result, ◌-◌, ◌⊎◌}
+use Rattle.std.specs.Result.{IsErrAnd}
 use Rattle.std.proofs.Common.{ℕ, List, Option, ◌≡◌, length, Ok, Err, refl, sym, ap, ◌∙◌, arith, subst, inl, inr}
+use Rattle.hpx_top.specs.declared.session.SessionFault.{SessionFault}
 use Rattle.hpx_top.specs.declared.session.SessionFault.TheVariants.{Read, OutOfMemory, InputFull}
 use Rattle.hpx_ports.specs.Told.{followed}
 use Rattle.hpx_journal.specs.Weights.{HasRoom}
@@ -12,6 +15,12 @@ use Rattle.hpx_top.proofs.serve.serve_lines.Goals as goal
 -- the front of a text that is another
 of_text : {text other : List ℕ} {old new : Option (List ℕ)} → text ≡ other → WritesFront text old new → WritesFront other old new
 of_text {text} {other} {old} {new} same w = subst (λ t. WritesFront t old new) same w
+
+-- a failed read or a full input that is handed on
+which : {T U : Type 0} (r : Result T SessionFault) (e : SessionFault) → IsErrAnd r (λ y. y ≡ e) → (r ≡ Err Read) ⊎ (r ≡ Err InputFull)
+    → (◌≡◌ {A = Result U SessionFault} (Err e) (Err InputFull)) ⊎ (◌≡◌ {A = Result U SessionFault} (Err e) (Err Read))
+which r e back (inl read) = inr (ap (λ f. Err f) (err_of r e Read back read))
+which r e back (inr full) = inl (ap (λ f. Err f) (err_of r e InputFull back full))
 
 pub returns-in_err-write-clause-ended : goal.returns-in_err-write-clause-ended
 returns-in_err-write-clause-ended g c =
@@ -131,14 +140,6 @@ returns-in_err-serve_line-clause-few g c =
     let s = c.loop-reader.invariant.handling.serving in
     omega (arith, c.serve_line.ensures.noted, s.count, s.few)
 
-pub returns-in_err-serve_line-clause-input : goal.returns-in_err-serve_line-clause-input
-returns-in_err-serve_line-clause-input g c =
-    let serving = rw (← same_rules c.args.world.now c.loop-reader.world c.loop-reader.invariant.count c.loop-reader.invariant.profile) at c.loop-reader.invariant.handling.serving in
-    λ input h e.
-    let is = ap (λ f. Err f) (err_of c.from_residual-in_err-serve_line.result c.in_err-serve_line.field-0.0 InputFull c.from_residual-in_err-serve_line.ensures.1 e) in
-    read_on_from 67108864 input (g.S.Source.left c.args.source.now) (g.S.Source.left c.serve_line.new.source) c.serve_line.new.reader h
-    (c.in_err-serve_line.ensures.input (inl is) _ _ serving) (c.serve_line.ensures.reads _ c.loop-reader.invariant.reads) (c.in_err-serve_line.ensures.full_input is)
-
 pub returns-in_err-serve_line-clause-short : goal.returns-in_err-serve_line-clause-short
 returns-in_err-serve_line-clause-short g c =
     let serving = rw (← same_rules c.args.world.now c.loop-reader.world c.loop-reader.invariant.count c.loop-reader.invariant.profile) at c.loop-reader.invariant.handling.serving in
@@ -153,12 +154,11 @@ pub returns-in_err-serve_line-clause-read_on : goal.returns-in_err-serve_line-cl
 returns-in_err-serve_line-clause-read_on g c =
     let serving = rw (← same_rules c.args.world.now c.loop-reader.world c.loop-reader.invariant.count c.loop-reader.invariant.profile) at c.loop-reader.invariant.handling.serving in
     λ input h e.
-    let is = ap (λ f. Err f) (err_of c.from_residual-in_err-serve_line.result c.in_err-serve_line.field-0.0 Read c.from_residual-in_err-serve_line.ensures.1 e) in (
-      c.serve_line.new.reader.read,
-      read_on_from c.serve_line.new.reader.read input (g.S.Source.left c.args.source.now)
-          (g.S.Source.left c.serve_line.new.source) c.serve_line.new.reader h
-          (c.in_err-serve_line.ensures.input (inr is) _ _ serving) (c.serve_line.ensures.reads _ c.loop-reader.invariant.reads) refl,
-    )
+    let is = which c.from_residual-in_err-serve_line.result c.in_err-serve_line.field-0.0 c.from_residual-in_err-serve_line.ensures.1 e in
+    read_on_from (g.S.Source.taken c.serve_line.new.source - g.S.Source.taken c.args.source.now) (length c.serve_line.new.progress.cuts.items) input
+    (g.S.Source.left c.args.source.now) (g.S.Source.left c.serve_line.new.source) c.serve_line.new.reader h
+    (c.in_err-serve_line.ensures.input is _ _ serving) (c.serve_line.ensures.reads _ c.loop-reader.invariant.reads)
+    (omega (arith, c.loop-reader.invariant.counted, c.serve_line.ensures.counted))
 
 pub returns-in_err-serve_line-clause-taken : goal.returns-in_err-serve_line-clause-taken
 returns-in_err-serve_line-clause-taken g c =
