@@ -68,7 +68,7 @@ module _ (r : Rules) (log : ℕ) (es : List Entry) (grammar : HasGrammar r) (leg
     (o : Id) (small : o.kind < 16) (home : o.home ≡ 0) where
   -- ---- no move of a root is granted, so no message brings an action on it
 
-  none_granted : (x : Id) → same_object o x ≡ true → grants_of_all r t (part 0 es) x ≡ 0
+  none_granted : (x : Id) → same_object o x ≡ true → grants_of_all t (part 0 es) x ≡ 0
   none_granted x same = root_grants r log es grammar legal 0 t s x (omega (arith, small, ap (λ (y : Id). y.kind) (same_object-true o x same)))
 
   -- how many actions on it there are in a message
@@ -88,7 +88,7 @@ module _ (r : Rules) (log : ℕ) (es : List Entry) (grammar : HasGrammar r) (leg
     | inr f ↦ ap one_if f
   ]
 
-  granted_off : (act : Act) → 1 ≤ grants_of_all r t (part 0 es) (target_of act) → one_if (same_object o (target_of act)) ≡ 0
+  granted_off : (act : Act) → 1 ≤ grants_of_all t (part 0 es) (target_of act) → one_if (same_object o (target_of act)) ≡ 0
   granted_off act some = elim (cases_Bool (same_object o (target_of act))) [
     | inl t ↦ absurd (omega (arith, some, none_granted (target_of act) t))
     | inr f ↦ ap one_if f
@@ -103,7 +103,7 @@ module _ (r : Rules) (log : ℕ) (es : List Entry) (grammar : HasGrammar r) (leg
   goes_most (Shipped act state) h = omega (arith, one_on act, move_off act h.0)
   goes_most _ h = omega arith
 
-  waits_off : (k n : ℕ) (p : Parcel) → IsWaitingFor k n p → 1 ≤ grants_of_all r t (part 0 es) (target_of (act_in p)) → on p ≡ 0
+  waits_off : (k n : ℕ) (p : Parcel) → IsWaitingFor k n p → 1 ≤ grants_of_all t (part 0 es) (target_of (act_in p)) → on p ≡ 0
   waits_off k n (Apply act) h some = one_on act ∙ granted_off act some
   waits_off k n (Move act) h some = one_on act ∙ granted_off act some
   waits_off k n _ h some = absurd h
@@ -148,9 +148,9 @@ module _ (r : Rules) (log : ℕ) (es : List Entry) (grammar : HasGrammar r) (leg
     messages_sum on t,
     ap (sum_by on) desk,
     out_off,
-    none_sum (λ (w : Waiting Parcel). IsWaitingFor t.here w.number w.item × (1 ≤ grants_of_all r t (part 0 es) (target_of (act_in w.item))))
+    none_sum (λ (w : Waiting Parcel). IsWaitingFor t.here w.number w.item × (1 ≤ grants_of_all t (part 0 es) (target_of (act_in w.item))))
         (λ (w : Waiting Parcel). on w.item) t.queued (λ w h. waits_off t.here w.number w.item h.0 h.1)
-        (both_all (λ (w : Waiting Parcel). IsWaitingFor t.here w.number w.item) (λ (w : Waiting Parcel). 1 ≤ grants_of_all r t (part 0 es) (target_of (act_in w.item))) t.queued
+        (both_all (λ (w : Waiting Parcel). IsWaitingFor t.here w.number w.item) (λ (w : Waiting Parcel). 1 ≤ grants_of_all t (part 0 es) (target_of (act_in w.item))) t.queued
         s.tidy.queued s.begun.queued),
     none_sum (λ (p : Parcel). IsGranted t.here t.objects p × IsParcel p) on t.leaving (λ p h. leaves_off p h.0 h.1)
         (both_all (IsGranted t.here t.objects) IsParcel t.leaving s.tidy.leaving parcels.leaving),

@@ -19,6 +19,7 @@ pub mod Held
 pub mod Landed
 pub mod Lands
 pub mod IdleFired
+pub mod IdleMoves
 pub mod IdleSince
 pub mod LeftBy
 pub mod LeftFailed

@@ -5,7 +5,7 @@ use Rattle.hpx_tables.specs.Kept.{grants}
 use Rattle.hpx_agas.specs.Registries.{IsFree}
 use Rattle.hpx_agas.specs.declared.record.Waiting.{Waiting}
 use Rattle.hpx_steps.specs.Frames.{MayGoTo}
-use Rattle.hpx_steps.proofs.Puts.{as_parcel, move_to-bare, way_goes}
+use Rattle.hpx_steps.proofs.Puts.{goes_letter, move_to-bare, way_goes}
 use Rattle.hpx_steps.proofs.ByRows.{if_so}
 
 module _ (act : Act) (t : Tables) where
@@ -93,7 +93,7 @@ begins_some t act place way none = let k = (way_goes t act).begin place way in l
 
 -- where a message goes that carries an action to its object
 pub letter_may : (t : Tables) (act : Act) (to : ℕ) → way t act ≡ To to → MayGoTo t.here to (parcel_for act)
-letter_may t act to way = let k = (way_goes t act).onward to way in as_parcel (MayGoTo t.here to) act k k
+letter_may t act to way = goes_letter t act to ((way_goes t act).onward to way)
 
 pub moves_some : (records : List Record) (o : Id) → Moves records o → IsSome (option_and_then (λ (r : Record). r.moving) (find_record o records))
 moves_some records o m = subst (λ x. IsSome (option_and_then (λ (r : Record). r.moving) x)) (sym m.1) m.2

@@ -33,7 +33,7 @@ module _ (act : Act) (ids : List Id) (was came : List Arrival) where
 pub noted : (t : Tables) (act : Act) (ids : List Id) (came : List Arrival) → (act.code ≡ 1 → tells act ids ≡ true) → (told : Option Id) → Notes act ids t.came came told
     → CameWith (at_rest t) act (record { came = came; untold = option_to_list told }) ⊎ CameAlone (at_rest t) act (record { came = came; untold = option_to_list told })
 noted t act ids came must None h = inr (record { none = λ code. h.1 (must code); came = h.0; untold = refl })
-noted t act ids came must (Some o) h = inl (record { i = h.2.0; there = h.2.1; came = h.2.2; untold = ap (λ x. x ∷ []) h.0 })
+noted t act ids came must (Some o) h = inl (record { moves = (tells_parts act ids h.1).0; i = h.2.0; there = h.2.1; came = h.2.2; untold = ap (λ x. x ∷ []) h.0 })
 
 -- a MOVE that is done tells: nobody names its target
 pub move_notes : (n : ℕ) (t : Tables) (job : Job) (out : Outcome) → IsFitJob job → KeepsLaws n job.kind job.at job.state (plain job.action) out → (x : Standing)

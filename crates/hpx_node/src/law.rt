@@ -1,6 +1,6 @@
 //! What it says of a locality's part that its tables stand for it.
 ghost use Rattle.std.specs.Prelude.{◌≡◌, ◌≤◌, ◌+◌, ◌++◌, [], ℕ, List, is_some, length};
-ghost use Rattle.std.specs.List.{sum_by, count_by, find};
+ghost use Rattle.std.specs.List.{AllByRecursion, sum_by, count_by, find};
 ghost use Rattle.hpx_journal.specs.Data.{Id};
 ghost use Rattle.hpx_journal.specs.Entries.{Rules};
 ghost use Rattle.hpx_journal.specs.Laws.{outs, ins, RefusesForCause, FreesTheDead};
@@ -16,8 +16,9 @@ ghost use Rattle.hpx_commit.specs.Stocks.{Stock, ahead};
 ghost use Rattle.hpx_tables.specs.Splits.{first_cuts, splits_from};
 ghost use Rattle.hpx_tables.specs.Awaited.{awaited_here, awaited_at};
 ghost use Rattle.hpx_tables.specs.Tables.{Tables, IsPassive, fired_acts};
-ghost use Rattle.hpx_steps.specs.Rows.{Row, IsRowAt, goes, causes, hops, sets_out};
-ghost use Rattle.hpx_steps.specs.Rest.{unpaid, StandsWith};
+ghost use Rattle.hpx_steps.specs.Rows.{Row, Landeds, IsRowAt, goes, causes, hops, moves_done, sets_out};
+ghost use Rattle.hpx_steps.specs.Rest.{grants_in, unpaid, StandsAtRest, StandsWith};
+ghost use Rattle.hpx_steps.specs.Sound.{SendsOwn, gone, grants_left, leads_on};
 ghost use Rattle.hpx_steps.specs.Frames.{IsSpelled};
 ghost use Rattle.hpx_tables.specs.Free.{NoneIsFree};
 ghost use Rattle.hpx_tables.specs.Jobs.{Starts, IsRunning};
@@ -56,6 +57,9 @@ pub fn sleep_law()
 /// messages after their objects no more often than they came or were sent. An id goes or is handed over with no more credit no more
 /// often than one came so or was refused here. Where the node is passive each dead object of its home was freed here or a Free of it
 /// was sent, and each Free that came has freed its object.
+/// Of moves: no more messages tell that an object has landed than MOVEs are done, from boot on and from any moment on at which the node
+/// was passive. Each frame goes the one way that its message may go. And an action on an object of this home goes on from here
+/// only after a move of the object from here was granted: it has left, unless the grant is still to be dealt with here.
 pub fn idle_law()
     ensures boot { (r : Rules) (t : Tables) (entries : List Entry) → StandsWith r t [] [] entries → (row : Row) → IsRowAt t.localities t.here row →
         sum_by (λ (e : Entry). goes r row e.event) (part t.here entries) + unpaid row t
@@ -73,6 +77,21 @@ pub fn idle_law()
     ensures refuses { (r : Rules) (t : Tables) (entries : List Entry) → StandsWith r t [] [] entries → RefusesForCause r (part t.here entries) }
     ensures frees { (r : Rules) (t : Tables) (entries : List Entry) → StandsWith r t [] [] entries → IsPassive t →
         FreesTheDead r t.here (part t.here entries) }
+    ensures landeds { (r : Rules) (t : Tables) (entries : List Entry) → StandsWith r t [] [] entries →
+        IsClean r (at_boot r t.here) (part t.here entries) →
+        sum_by (λ (e : Entry). goes r Landeds e.event) (part t.here entries) ≤ moves_done (run_local r (at_boot r t.here) (part t.here entries)) }
+    ensures landeds_since { (r : Rules) (t t' : Tables) (entries later : List Entry) → StandsWith r t [] [] entries → IsPassive t →
+        StandsWith r t' [] [] (entries ++ later) → t'.here ≡ t.here → IsClean r (at_boot r t.here) (part t.here (entries ++ later)) →
+        sum_by (λ (e : Entry). goes r Landeds e.event) (part t.here later) + moves_done (run_local r (at_boot r t.here) (part t.here entries))
+        ≤ moves_done (run_local r (at_boot r t.here) (part t.here (entries ++ later))) }
+    ensures ways { (r : Rules) (t : Tables) (entries : List Entry) → StandsAtRest r t entries →
+        AllByRecursion (λ (e : Entry). SendsOwn r t.localities t.here t.profile.credit_log e.event) (part t.here entries) }
+    ensures onward { (r : Rules) (t : Tables) (entries : List Entry) (o : Id) → StandsAtRest r t entries →
+        1 ≤ sum_by (λ (e : Entry). gone r (leads_on t.here o) e.event) (part t.here entries) →
+        1 ≤ sum_by (λ (e : Entry). grants_left o e.event) (part t.here entries) + grants_in o t }
+    ensures left { (r : Rules) (t : Tables) (entries : List Entry) (o : Id) → StandsAtRest r t entries → IsPassive t →
+        1 ≤ sum_by (λ (e : Entry). gone r (leads_on t.here o) e.event) (part t.here entries) →
+        1 ≤ sum_by (λ (e : Entry). grants_left o e.event) (part t.here entries) }
 {}
 
 /// A commit that waits splits what it has ahead, and splits the rest once it goes on: in all as often as one that does not wait,

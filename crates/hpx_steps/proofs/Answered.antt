@@ -120,7 +120,7 @@ module _ (r : Rules) (s : Turn) (entries : List Entry) (h : IsSound r s entries)
         (λ o x m. inl (placed o x m));
     tracks = tracks_by (λ q. 0) (λ q. 0) s now away refl refl (λ q. omega (arith, moves (grants_here q) 0 0 refl refl refl refl))
         (λ q. inl (omega (arith, moves (leads_away s.tables.here q) 0 0 refl refl refl refl)));
-    counts = counts_near s now (Count (bare id) count why) refl (omega arith) (omega arith) (omega arith) (omega arith) (omega arith) (λ x. refl);
+    counts = counts_near s now (Count (bare id) count why) refl (omega arith) (omega arith) (omega arith) (omega arith) (omega arith) (λ x. refl) (omega arith);
   }
     where
       alive : (count == 0) ≡ false

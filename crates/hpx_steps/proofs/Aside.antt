@@ -125,6 +125,7 @@ module _ (r : Rules) (s : Turn) (entries : List Entry) (h : IsSound r s entries)
         let k : frees_one o p ≡ 0 = none (frees_one o) (λ a. refl) (λ a. refl) (λ a. refl) (λ a b. refl) in
         omega (arith, moves (freeing o) 0 k refl refl refl);
     says = same_says (λ q j. 0) (λ q. 0) s now refl (λ q j. let k = none (tells_at q j) (λ a. refl) (λ a. refl) (λ a. refl) (λ a b. refl) in omega (arith, moves (tells_come q j) 0 k refl refl refl)) (λ q. let k = none (tell_of q) (λ a. refl) (λ a. refl) (λ a. refl) (λ a b. refl) in omega (arith, moves (tells_own q) 0 refl k refl refl));
+    came = omega arith;
     arrived = λ a. omega (arith, h.arrived a, moves (brought a) 0 refl refl refl refl, moves (moved_by a) 0 refl refl refl refl);
     flows = same_flows r None s now refl (λ o. refl) (λ f own. omega (arith, moves (flow s.tables.here f) (flow_go s.tables.here f p) (no_told f) (no_told f) refl refl));
     tracks = record {

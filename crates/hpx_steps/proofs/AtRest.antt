@@ -40,7 +40,7 @@ module _ (t : Tables) where
   joined_is = omega (arith, zeros t.desk, zeros t.outgoing, zeros t.queued, zeros t.leaving, zeros t.came, sym (long_sum t.accepted), zeros t.running, zeros t.pending, zeros t.objects)
 
   grants_is : (o : Id) → weigh (grants_here o) (at_rest t) ≡ grants_in o t
-  grants_is o = omega (arith, zeros t.queued, zeros t.came, zeros t.accepted, zeros t.running, zeros t.pending, zeros t.objects)
+  grants_is o = omega (arith, zeros t.outgoing, zeros t.queued, zeros t.came, zeros t.accepted, zeros t.running, zeros t.pending, zeros t.objects)
 
   onward_is : (o : Id) → weigh (leads_away t.here o) (at_rest t) ≡ sum_by (λ (x : Outgoing). leads_on t.here o x.parcel) t.outgoing
   onward_is o = omega (arith, zeros t.desk, zeros t.queued, zeros t.leaving, zeros t.stray, zeros t.came, zeros t.accepted, zeros t.running, zeros t.pending, zeros t.objects)
@@ -143,6 +143,7 @@ module _ (t : Tables) where
         };
         few_answers = h.numbers.few_answers;
         answered = h.numbers.answered;
+        moved = h.numbers.moved;
       };
       orderly = record {
         sent = h.orderly.sent;
@@ -153,7 +154,7 @@ module _ (t : Tables) where
       };
       begun = record {
         away = λ o m. omega (arith, h.begun.away o m, grants_is o);
-        queued = all_among (λ (w : Waiting Parcel). 1 ≤ grants_of_all r t (part t.here entries) (target_of (act_in w.item))) t.queued
+        queued = all_among (λ (w : Waiting Parcel). 1 ≤ grants_of_all t (part t.here entries) (target_of (act_in w.item))) t.queued
             (λ w m. omega (arith, h.begun.queued w m, grants_is (target_of (act_in w.item))));
         stray = λ act m. omega (arith, h.begun.stray act m, grants_is (target_of act));
         onward = λ o m. omega (arith, h.begun.onward o (omega (arith, m, onward_is o)), grants_is o);
@@ -250,7 +251,7 @@ module _ (t : Tables) where
         away = λ o m. omega (arith, h.begun.away o m, grants_is o);
         queued = λ w m. omega (
           arith,
-          among_all (λ (y : Waiting Parcel). 1 ≤ grants_of_all r t (part t.here entries) (target_of (act_in y.item))) w t.queued m h.begun.queued,
+          among_all (λ (y : Waiting Parcel). 1 ≤ grants_of_all t (part t.here entries) (target_of (act_in y.item))) w t.queued m h.begun.queued,
           grants_is (target_of (act_in w.item)),
         );
         stray = λ act m. omega (arith, h.begun.stray act m, grants_is (target_of act));

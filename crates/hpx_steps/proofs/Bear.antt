@@ -165,7 +165,7 @@ module _ (r : Rules) (s : Turn) (entries : List Entry) (h : IsSound r s entries)
     arrived = λ a. omega (arith, h.arrived a, change.0 (brought a), change.0 (moved_by a));
     flows = all_flows r (Some e) s now (λ o. refl) flows_now near_now;
     tracks = tracks_by (λ x. 0) (λ x. 0) s now not_away refl refl (λ x. omega (arith, change.0 (grants_here x))) (λ x. inl (omega (arith, change.0 (leads_away s.tables.here x))));
-    counts = counts_near s now e refl (omega arith) (omega arith) (omega arith) (omega arith) (omega arith) (λ l. refl);
+    counts = counts_near s now e refl (omega arith) (omega arith) (omega arith) (omega arith) (omega arith) (λ l. refl) (omega arith);
   }
 
 pub bear_step : (r : Rules) (s s' : Turn) (entries : List Entry) (o : Id) (state : State) → IsSound r s entries → Bears s o state s' → Keeps r s s' (Born o state)

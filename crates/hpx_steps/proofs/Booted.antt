@@ -10,7 +10,7 @@ no_record (y ∷ ys) o x e is = cc
 pub boot_begun : (r : Rules) (t : Tables) → t.records ≡ [] → t.queued ≡ [] → t.stray ≡ [] → t.outgoing ≡ [] → MovesBegan r t []
 boot_begun r t records queued stray outgoing = record {
   away = λ o m. absurd (let k : false ≡ true = subst (λ (rs : List Record). option_map_or (is_away t.here) (find_record o rs) false ≡ true) records m in cc);
-  queued = subst (AllByRecursion (λ (w : Waiting Parcel). 1 ≤ grants_of_all r t [] (target_of (act_in w.item)))) (sym queued) tt;
+  queued = subst (AllByRecursion (λ (w : Waiting Parcel). 1 ≤ grants_of_all t [] (target_of (act_in w.item)))) (sym queued) tt;
   stray = λ act m. absurd (subst (Among (Apply act)) stray m);
   onward = λ o m. absurd (omega (arith, m, ap (sum_by (λ (x : Outgoing). leads_on t.here o x.parcel)) outgoing));
   lands = λ clean act state m. absurd (subst (Among (Shipped act state)) stray m);

@@ -1,5 +1,5 @@
 -- What many entries have in common.
-use Rattle.hpx_steps.proofs.Common.{IsRowAt, Act, Standing, starts, AreNumbered, Bool, Event, Id, IsOwn, Item, List, Local, Parcel, Row, Rules, SameTokens, SendsOwn, Tables, Turn, View, ap, arith, arrives_at, asked_by, asks_for, asks_under, causes, come, cond, count_by, counts_of, done_after, fires_one, freeing, given_to, gives_for, goes, gone, gone_to, hopping, joined, joins, length, outs_by, own, parcel_asks, parcel_frees, same_object, spends, subst, sym, tokens, unpaid, view, waits_for, weigh, wrote, ℕ, ◌+◌, ◌∙◌, ◌≡◌, ◌≢◌, ◌≤◌, SameSums, Travel, parcel_travels, sum_by, grants_gone, grants_here, away_here, leads_away, leads_on, tells_at, tells_come, Flow, Some, flow, flow_comes, flow_goes, tells_own, is_landed_of, one_if, dies}
+use Rattle.hpx_steps.proofs.Common.{IsRowAt, Act, Standing, starts, AreNumbered, Bool, Event, Id, IsOwn, Item, List, Local, Parcel, Row, Rules, SameTokens, SendsOwn, Tables, Turn, View, ap, arith, arrives_at, asked_by, asks_for, asks_under, causes, come, cond, count_by, counts_of, done_after, fires_one, freeing, given_to, gives_for, goes, gone, gone_to, hopping, joined, joins, length, outs_by, own, parcel_asks, parcel_frees, same_object, spends, subst, sym, tokens, unpaid, view, waits_for, weigh, wrote, ℕ, ◌+◌, ◌∙◌, ◌≡◌, ◌≢◌, ◌≤◌, SameSums, Travel, parcel_travels, sum_by, grants_left, grants_here, away_here, leads_away, leads_on, tells_at, tells_come, Flow, Some, flow, flow_comes, flow_goes, tells_own, is_landed_of, one_if, dies, lands_one}
 use Rattle.hpx_steps.proofs.Changes.{Sums, total}
 use Rattle.hpx_steps.proofs.Seen.{Sees, as_seen}
 use Rattle.hpx_steps.proofs.Sums.{acted, acting, by_own, by_parcel, own_sum, seen_sum, stands_of, view_fired, view_objects, wait_sum}
@@ -21,8 +21,9 @@ NearNumbers t t' = SameNumbers (record t { births = t'.births; serial = t'.seria
 
 pub counts_near : (s s' : Turn) (e : Event) → NearNumbers s.tables s'.tables → s'.tables.births ≤ s.tables.births + 1 → s'.tables.serial ≤ s.tables.serial + 1
     → s'.tables.asked ≤ s.tables.asked + 1 → s'.tables.sent ≡ s.tables.sent + length (outs_by s.tables.here e)
-    → s'.tables.taken ≡ s.tables.taken + length (arrives_at s.tables.here e) → ((l : Local) → done_after l e ≡ l.done) → Counts s s' e
-counts_near s s' e near born few asked sent taken done = grind arith
+    → s'.tables.taken ≡ s.tables.taken + length (arrives_at s.tables.here e) → ((l : Local) → done_after l e ≡ l.done)
+    → lands_one e + length s.tables.came ≤ length s'.tables.came → Counts s s' e
+counts_near s s' e near born few asked sent taken done came = grind arith
 
 -- ---- what goes and what comes pays, and keeps the order
 
@@ -44,9 +45,9 @@ module _ (r : Rules) (s s' : Turn) (e : Event) (out into : List Item) (sums : Su
   }
 
   pub tracks_so : ((o : Id) → away_here s'.tables o ≡ away_here s.tables o) → s'.tables.queued ≡ s.tables.queued → s'.tables.stray ≡ s.tables.stray
-      → ((o : Id) → total (grants_here o) out ≤ grants_gone r o e + total (grants_here o) into)
-      → ((o : Id) → gone r (leads_on s.tables.here o) e + total (leads_away s.tables.here o) into ≤ total (leads_away s.tables.here o) out) → Tracks (λ o. grants_gone r o e) (λ o. gone r (leads_on s.tables.here o) e) s s'
-  tracks_so same queued stray kept frees = same_tracks (λ o. grants_gone r o e) (λ o. gone r (leads_on s.tables.here o) e) s s' same queued stray (λ o. omega (arith, sums (grants_here o), kept o))
+      → ((o : Id) → total (grants_here o) out ≤ grants_left o e + total (grants_here o) into)
+      → ((o : Id) → gone r (leads_on s.tables.here o) e + total (leads_away s.tables.here o) into ≤ total (leads_away s.tables.here o) out) → Tracks (λ o. grants_left o e) (λ o. gone r (leads_on s.tables.here o) e) s s'
+  tracks_so same queued stray kept frees = same_tracks (λ o. grants_left o e) (λ o. gone r (leads_on s.tables.here o) e) s s' same queued stray (λ o. omega (arith, sums (grants_here o), kept o))
       (λ o. omega (arith, sums (leads_away s.tables.here o), frees o))
 
   pub says_so : s'.tables.records ≡ s.tables.records → ((o : Id) (j : ℕ) → total (tells_come o j) into ≤ total (tells_come o j) out + come r (tells_at o j) e)

@@ -137,6 +137,7 @@ ends_so s w rest j x left moved due works lacks stands found kept plain credit f
 -- it came so, or not, in another turn too
 pub came_so : (s s' : Turn) (act : Act) (moved : Moved) → s'.tables.came ≡ s.tables.came → s'.untold ≡ s.untold → CameWith s act moved ⊎ CameAlone s act moved → CameWith s' act moved ⊎ CameAlone s' act moved
 came_so s s' act moved same untold (inl k) = inl (record {
+  moves = k.moves;
   i = k.i;
   there = subst (λ (c : List Arrival). slice_get c k.i ≡ Some (arrival_of act)) (sym same) k.there;
   came = k.came ∙ ap (λ (c : List Arrival). remove c k.i) (sym same);

@@ -97,8 +97,8 @@ pub use Rattle.hpx_steps.specs.Ways.{Accept, Begin, Queue, To, Way, accepts, beg
 pub use Rattle.hpx_steps.specs.Numbered.{AreNumbered, asks_as, asks_under}
 pub use Rattle.hpx_steps.specs.Paused.{Apart, AreLent, HasCommits, HasObject, HasSplit, IsCommit, IsShort, IsWhole, Single, bare_names, first_stock, names_of, whole_stock}
 pub use Rattle.hpx_steps.specs.Rest.{ArePaused, IsPaused, Stands, StandsAtRest, bound_for, hops_left, of_accepted, of_came, rules_of, MovesBegan, ArePlaced, grants_in, grants_of_all}
-pub use Rattle.hpx_steps.specs.Rows.{IsRowAt, go_to, moves_to, ship_to, tell_of, follows, starts, Actions, AreFired, Asks, Counts, Frees, FreesOf, Refusals, Returns, Row, brings, causes, fires_one, freeing, frees_one, goes, hopping, is_least, is_refusal, is_refused, joined, joins, kind_of, of_act, one_if, owes, spends, unpaid, weighed, weight, tells_at}
-pub use Rattle.hpx_steps.specs.Sound.{AreNumbers, AreRules, HasPlaces, IsOrderly, IsGranted, IsOwn, IsPaid, IsStray, IsSound, IsTidy, IsTidyIn, SendsOwn, IsWaitingFor, IsLive, MovesOn, TidyAt, all_count, asked_by, asking, asks_for, come, given_to, gives_for, gone, gone_to, waits_for, worth, HasBegun, grants_of, grants_here, grants_gone, grants_made, leads_on, leads_away, IsPlaced, tells_own, tells_come, is_away, away_here, arrival_of, same_arrival, brought, move_of, moved_by}
+pub use Rattle.hpx_steps.specs.Rows.{IsRowAt, AreMoved, is_move, lands_one, moves_done, go_to, moves_to, ship_to, tell_of, follows, starts, Actions, AreFired, Asks, Counts, Frees, FreesOf, Refusals, Returns, Row, brings, causes, fires_one, freeing, frees_one, goes, hopping, is_least, is_refusal, is_refused, joined, joins, kind_of, of_act, one_if, owes, spends, unpaid, weighed, weight, tells_at}
+pub use Rattle.hpx_steps.specs.Sound.{AreNumbers, AreRules, HasPlaces, IsOrderly, IsGranted, IsOwn, IsPaid, IsStray, IsSound, IsTidy, IsTidyIn, SendsOwn, IsWaitingFor, IsLive, MovesOn, TidyAt, all_count, asked_by, asking, asks_for, come, given_to, gives_for, gone, gone_to, waits_for, worth, HasBegun, grants_of, grants_here, grants_left, grants_made, leads_on, leads_away, IsPlaced, tells_own, tells_come, is_away, away_here, arrival_of, same_arrival, brought, move_of, moved_by}
 pub use Rattle.hpx_steps.specs.Steps.{Arrives, AsksFor, Bears, ComesIn, Commits, Deals, Ends, Fails, Feeds, Fires, GivesUp, GoesOut, Grants, HasInHand, IsCalm, IsGiven, IsTold, Label, Lands, Mark, Marks, Moved, CameWith, CameAlone, Departs, Merges, Park, Parks, Pause, Pauses, Place, Places, Prints, Recounts, Refuses, Release, Releases, Remains, Reorder, Reorders, Sends, Splits, Step, Steps, Suspend, Suspends, TakesBack, TakesUp, Tells, Writes, drops, ends, goes_on, with_credit, with_records, works_on, written, written_by}
 pub use Rattle.hpx_steps.specs.Turn.{Turn, at_rest, bare_due, bare_standing, commits, counted, ids_here, own_parcels, parcel_acts, parcel_asks, parcel_frees, parcel_tokens, parcel_travels, parcels, tokens, tokens_of, view, waiting}
 pub use Rattle.hpx_steps.specs.Flows.{EndsAt, Flow, IsFlowing, MovesTo, PlacedAt, dies, flow, flow_at, flow_comes, flow_freed, flow_go, flow_goes, flow_in, flow_left, free_for, flow_of, go_for, record_moves, record_rests}

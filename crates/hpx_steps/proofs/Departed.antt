@@ -1,5 +1,5 @@
 -- An object leaves.
-use Rattle.hpx_steps.proofs.Common.{◌&&◌, moves_to, one_if, Brought, Came, IsDue, Loose, Pending, Queued, Running, Stray, Untold, Working, eqb-true, ◌==◌, Accepted, Act, AllByRecursion, Among, Apply, Arrived, Ask, Bool, Cached, Departs, Entry, Event, Exchanges, Free, Give, Go, Going, Has, HasRightCredit, Id, IfSome, IsGranted, IsManaged, IsParcel, IsSound, IsTidy, Item, Leaving, Left, List, Mailed, Move, OnDesk, Parcel, Return, Row, Rules, Shipped, Some, Standing, StandsHere, TidyAt, Travel, Turn, View, Waits, [], action_of, acts_on, any_counted, ap, arith, asked_by, asks_under, bare, bare_act, bare_due, bare_standing, bare_state, causes, commits, cond, count_by, eq-eqb, false, false_from, find, find_passes, fired_of, freeing, given_to, goes, going, grants, hopping, inl, inr, is_busy, is_other, is_some, is_standing, joined, list_any, mails, map, move_to, owes, parcel_tokens, parcel_travels, refl, remove, same_object, same_object-from, same_object-refl, same_object-sym, same_object-true, session, slice_get, subst, sum_by, sum_by-cons, sym, target_of, true, unpaid, view, waiting, waits_for, weigh, weight, worth, wrote, ℕ, ◌+◌, ◌∙◌, ◌∷◌, ◌≡◌, ◌≢◌, ◌≤◌, grants_here, grants_gone, leads_away, tells_come, flow, flow_go, flow_left, Flow, tells_own, brought, moved_by}
+use Rattle.hpx_steps.proofs.Common.{◌&&◌, moves_to, one_if, Brought, Came, IsDue, Loose, Pending, Queued, Running, Stray, Untold, Working, eqb-true, ◌==◌, Accepted, Act, AllByRecursion, Among, Apply, Arrived, Ask, Bool, Cached, Departs, Entry, Event, Exchanges, Free, Give, Go, Going, Has, HasRightCredit, Id, IfSome, IsGranted, IsManaged, IsParcel, IsSound, IsTidy, Item, Leaving, Left, List, Mailed, Move, OnDesk, Parcel, Return, Row, Rules, Shipped, Some, Standing, StandsHere, TidyAt, Travel, Turn, View, Waits, [], action_of, acts_on, any_counted, ap, arith, asked_by, asks_under, bare, bare_act, bare_due, bare_standing, bare_state, causes, commits, cond, count_by, eq-eqb, false, false_from, find, find_passes, fired_of, freeing, given_to, goes, going, grants, hopping, inl, inr, is_busy, is_other, is_some, is_standing, joined, list_any, mails, map, move_to, owes, parcel_tokens, parcel_travels, refl, remove, same_object, same_object-from, same_object-refl, same_object-sym, same_object-true, session, slice_get, subst, sum_by, sum_by-cons, sym, target_of, true, unpaid, view, waiting, waits_for, weigh, weight, worth, wrote, ℕ, ◌+◌, ◌∙◌, ◌∷◌, ◌≡◌, ◌≢◌, ◌≤◌, grants_here, grants_left, leads_away, tells_come, flow, flow_go, flow_left, Flow, tells_own, brought, moved_by}
 use Rattle.hpx_journal.specs.Frames.{travel_of}
 use Rattle.hpx_journal.specs.Local.{leaving}
 use Rattle.hpx_journal.specs.Rows.{is_move_of, is_to}
@@ -232,8 +232,8 @@ module _ (r : Rules) (s : Turn) (entries : List Entry) (h : IsSound r s entries)
     says = same_says (λ q j. 0) (λ q. 0) s now refl (λ q k. omega (arith, moves (tells_come q k) 0 refl refl)) (λ q. omega (arith, moves (tells_own q) 0 refl refl));
     arrived = λ a. omega (arith, h.arrived a, moves (brought a) 0 refl refl, moves (moved_by a) 0 refl refl);
     flows = same_flows r (Some e) s now refl (λ o. refl) (λ f own. let k = flowless s.tables.here f (Shipped act x.state) tt in omega (arith, moves (flow s.tables.here f) 0 k.0 (k.1 to), gone f));
-    tracks = same_tracks (λ q. grants_gone r q e) (λ q. 0) s now (λ q. refl) refl refl (λ q. omega (arith, moves (grants_here q) 0 refl refl)) (λ q. omega (arith, moves (leads_away s.tables.here q) 0 refl refl));
-    counts = counts_near s now e refl (omega arith) (omega arith) (omega arith) (omega arith) (omega arith) (λ l. refl);
+    tracks = same_tracks (λ q. grants_left q e) (λ q. 0) s now (λ q. refl) refl refl (λ q. omega (arith, moves (grants_here q) 0 refl refl)) (λ q. omega (arith, moves (leads_away s.tables.here q) 0 refl refl));
+    counts = counts_near s now e refl (omega arith) (omega arith) (omega arith) (omega arith) (omega arith) (λ l. refl) (omega arith);
   }
     where
       costs : (row : Row) → goes r row (Left (bare (target_of act)) to) + weight row (Shipped act x.state) ≡ owes row (Go act) + causes r row (Left (bare (target_of act)) to)

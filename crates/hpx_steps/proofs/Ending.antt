@@ -1,5 +1,7 @@
 -- An action ends: what holds of what it leaves, and that it is done, or fails.
-use Rattle.hpx_steps.proofs.Common.{Act, Agree, Agree-found, AllByRecursion, AreMade, AskedFor, Bool, Commits, Done, Due, Ends, Entry, Event, Fails, HasCommits, HasPlaces, HasRightCredit, Id, IsAct, IsCommit, IsDue, IsSound, IsTidy, Item, Leads, List, Loose, Name, Option, Refusal, Remains, Row, Rules, Some, Standing, StandsHere, State, TidyAt, Token, Turn, View, Waits, Working, [], action_of, all_append, answered_by, any_counted, ap, arith, asking, asks_under, bare, bare_act, bare_due, bare_standing, bare_state, causes, commits, cond, count_by, count_in, counted_any, counts_of, drop, due_ids, due_with, ends, failure, false, filter, find, find_passes, fired_of, follows_done, follows_fail, freeing, given_to, goes, hopping, id_at, ids_named, inl, is_act, is_answer, is_asked, is_recorded, is_standing, joined, length, length-append, list_any, map, map-append, means, name_of, names_of, option_to_list, own, own_ids, plain, refl, refusal_of, refusals_of, rider_of, same_name-refl, same_object, same_refusal, session, set, some_same, split_get, split_set, state_after, subst, suc, sum_by, sum_by-append, sum_by-cons, sym, take, target_of, tokens, tokens_of, true, unpaid, view, weigh, with_credit, worth, wrote, zero, ℕ, ◌&&◌, ◌++◌, ◌+◌, ◌<◌, ◌==◌, ◌||◌, ◌∙◌, ◌∷◌, ◌≡◌, ◌≤◌, grants_here, leads_away, tells_come, flow, tells_own, brought, moved_by, Arrival, Moved, CameWith, CameAlone, Brought, Untold, arrival_of, same_arrival, move_of, None, and_true, same_object-true, eqb-true, is_some, not, remove, slice_get, one_if, ◌⊎◌, inr}
+use Rattle.std.proofs.lemmas.List.Edits.{length-remove}
+use Rattle.hpx_part.proofs.Keyed.{slice_get_less}
+use Rattle.hpx_steps.proofs.Common.{eq-eqb, is_move, Act, Agree, Agree-found, AllByRecursion, AreMade, AskedFor, Bool, Commits, Done, Due, Ends, Entry, Event, Fails, HasCommits, HasPlaces, HasRightCredit, Id, IsAct, IsCommit, IsDue, IsSound, IsTidy, Item, Leads, List, Loose, Name, Option, Refusal, Remains, Row, Rules, Some, Standing, StandsHere, State, TidyAt, Token, Turn, View, Waits, Working, [], action_of, all_append, answered_by, any_counted, ap, arith, asking, asks_under, bare, bare_act, bare_due, bare_standing, bare_state, causes, commits, cond, count_by, count_in, counted_any, counts_of, drop, due_ids, due_with, ends, failure, false, filter, find, find_passes, fired_of, follows_done, follows_fail, freeing, given_to, goes, hopping, id_at, ids_named, inl, is_act, is_answer, is_asked, is_recorded, is_standing, joined, length, length-append, list_any, map, map-append, means, name_of, names_of, option_to_list, own, own_ids, plain, refl, refusal_of, refusals_of, rider_of, same_name-refl, same_object, same_refusal, session, set, some_same, split_get, split_set, state_after, subst, suc, sum_by, sum_by-append, sum_by-cons, sym, take, target_of, tokens, tokens_of, true, unpaid, view, weigh, with_credit, worth, wrote, zero, ℕ, ◌&&◌, ◌++◌, ◌+◌, ◌<◌, ◌==◌, ◌||◌, ◌∙◌, ◌∷◌, ◌≡◌, ◌≤◌, grants_here, leads_away, tells_come, flow, tells_own, brought, moved_by, Arrival, Moved, CameWith, CameAlone, Brought, Untold, arrival_of, same_arrival, move_of, None, and_true, same_object-true, eqb-true, is_some, not, remove, slice_get, one_if, ◌⊎◌, inr}
 use Rattle.hpx_journal.specs.Entries.{same_name}
 use Rattle.hpx_steps.proofs.Tools.{Changes, Keeps, Sees, all_come, all_with, among_at, as_seen, bare_all, bare_lent, by_rows, credit_tokens, due_change, end_commits, fewer, first_goes, found-bare, holding, ids_append, ids_each, ids_flat, loose_change, more_come, no_tokens, none_sum, objects_change, one_turns, retidy, ridden_sum, rider_all, same_map, sees_covers, sees_leads, single_set, stand_set, target-bare, then, told_as, total, total_append, total_map, view_asking, view_covered, view_worth, working_change, same_tracks, same_says, same_flows, Trade, brought_change, untold_change, none_trade, one_goes, zeros}
 
@@ -348,12 +350,30 @@ module _ (r : Rules) (s : Turn) (entries : List Entry) (h : IsSound r s entries)
           let k : find (is_act (name_of w.job.action)) l.fired ≡ Some (bare_act w.job.action) =
           Agree-found is_act name_of means own l.fired front back (bare_act w.job.action) (subst (Agree is_act l.fired) fires shown) in
           omega (arith, one_done (find (is_act (name_of w.job.action)) l.fired) l.done k, answer-bare w.job.action);
+      moved = λ l shown.
+          let k : find (is_act (name_of w.job.action)) l.fired ≡ Some (bare_act w.job.action) =
+          Agree-found is_act name_of means own l.fired front back (bare_act w.job.action) (subst (Agree is_act l.fired) fires shown) in
+          omega (arith, one_move (find (is_act (name_of w.job.action)) l.fired) l.done k, came_less g.told);
     };
   }
     where
       one_done : (o : Option Act) (done : List Act) → o ≡ Some (bare_act w.job.action)
           → count_by is_answer (option_to_list o ++ done) ≡ answered_by (Some (bare_act w.job.action)) + count_by is_answer done
       one_done o done e = ap (λ y. count_by is_answer (option_to_list y ++ done)) e ∙ sum_by-cons (counts_of is_answer) (bare_act w.job.action) done
+
+      one_move : (o : Option Act) (done : List Act) → o ≡ Some (bare_act w.job.action)
+          → count_by is_move (option_to_list o ++ done) ≡ one_if (w.job.action.code == 1) + count_by is_move done
+      one_move o done e = ap (λ y. count_by is_move (option_to_list y ++ done)) e ∙ sum_by-cons (counts_of is_move) (bare_act w.job.action) done
+
+      -- a MOVE with which its object came is done
+      came_less : Told → length s.tables.came ≤ length moved.came + one_if (w.job.action.code == 1)
+      came_less (inl k) = omega (
+        arith,
+        ap (λ (c : List Arrival). length c) k.came,
+        length-remove s.tables.came k.i (slice_get_less s.tables.came k.i (arrival_of w.job.action) k.there),
+        ap one_if (eq-eqb w.job.action.code 1 k.moves),
+      )
+      came_less (inr k) = omega (arith, ap (λ (c : List Arrival). length c) k.came)
 
       answer-bare : (a : Act) → answered_by (Some (bare_act a)) ≡ answered_by (Some a)
       answer-bare a = ap (λ o. cond ((a.code == 3) && same_object session o) 1 0) (target-bare a)

@@ -68,7 +68,7 @@ module _ (r : Rules) (s : Turn) (entries : List Entry) (h : IsSound r s entries)
     arrived = λ a. omega (arith, h.arrived a, change.0 (brought a), change.0 (moved_by a));
     flows = flows_so r s now (Fire (name_of act)) (Accepted act ∷ []) (Running act ∷ []) change.0 refl (λ o. refl) (λ f. omega arith);
     tracks = tracks_so r s now (Fire (name_of act)) (Accepted act ∷ []) (Running act ∷ []) change.0 (λ o. refl) refl refl (λ o. omega arith) (λ o. omega arith);
-    counts = counts_near s now (Fire (name_of act)) refl (omega arith) (omega arith) (omega arith) (omega arith) (omega arith) (λ l. refl);
+    counts = counts_near s now (Fire (name_of act)) refl (omega arith) (omega arith) (omega arith) (omega arith) (omega arith) (λ l. refl) (omega arith);
   }
 
 pub fire_step : (r : Rules) (s s' : Turn) (entries : List Entry) (a : Name) → IsSound r s entries → Fires s a s' → Keeps r s s' (Fire a)

@@ -184,7 +184,7 @@ module _ (r : Rules) (s : Turn) (entries : List Entry) (h : IsSound r s entries)
     arrived = λ a. omega (arith, h.arrived a, stays (brought a) refl refl refl (λ id. refl), stays (moved_by a) refl refl refl (λ id. refl));
     flows = same_flows r (Some (Freed o)) s now refl (λ o. refl) (λ f own. omega (arith, moves (flow s.tables.here f), zeros (with_credit x.state.ids), hand_weighs (Free o) s hand (flow s.tables.here f) (flow_in s.tables.here f (Free o)) refl refl, freed_flow f));
     tracks = same_tracks (λ q. 0) (λ q. 0) s now (λ q. refl) refl refl (λ q. omega (arith, stays (grants_here q) refl refl refl (λ id. refl))) (λ q. omega (arith, stays (leads_away s.tables.here q) refl refl refl (λ id. refl)));
-    counts = counts_near s now (Freed o) refl (omega arith) (omega arith) (omega arith) (omega arith) (omega arith) (λ lc. refl);
+    counts = counts_near s now (Freed o) refl (omega arith) (omega arith) (omega arith) (omega arith) (omega arith) (λ lc. refl) (omega arith);
   }
     where
       freed_flow : (f : Flow) → flow_in s.tables.here f (Free o) ≡ flow_freed s.tables.here f o

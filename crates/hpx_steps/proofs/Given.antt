@@ -247,7 +247,7 @@ module _ (r : Rules) (s : Turn) (entries : List Entry) (h : IsSound r s entries)
     arrived = λ a. omega (arith, h.arrived a, moves (brought a) 0 refl refl refl, moves (moved_by a) 0 refl refl refl);
     flows = same_flows r (Some (Given (bare id) log)) s now refl (λ o. refl) (λ f own. let k = flowless s.tables.here f (Give id entry) tt in omega (arith, moves (flow s.tables.here f) 0 k.0 k.0 refl));
     tracks = same_tracks (λ q. 0) (λ q. 0) s now (λ q. refl) refl refl (λ q. omega (arith, moves (grants_here q) 0 refl refl refl)) (λ q. omega (arith, moves (leads_away s.tables.here q) 0 refl refl refl));
-    counts = counts_near s now (Given (bare id) log) refl (omega arith) (omega arith) (omega arith) (omega arith) (omega arith) (λ l. refl);
+    counts = counts_near s now (Given (bare id) log) refl (omega arith) (omega arith) (omega arith) (omega arith) (omega arith) (λ l. refl) (omega arith);
   }
     where
       costs : (row : Row) → goes r row (Given (bare id) log) ≡ owes row (Give id entry) + causes r row (Given (bare id) log)

@@ -44,7 +44,7 @@ module _ (r : Rules) (s : Turn) (entries : List Entry) (h : IsSound r s entries)
     arrived = λ a. omega (arith, h.arrived a, change.0 (brought a), change.0 (moved_by a));
     flows = flows_so r s now (In bytes) [] (Came p ∷ []) change.0 refl (λ o. refl) (λ f. omega (arith, told (flow_in s.tables.here f)));
     tracks = tracks_so r s now (In bytes) [] (Came p ∷ []) change.0 (λ o. refl) refl refl (λ o. omega arith) (λ o. omega arith);
-    counts = counts_near s now (In bytes) refl (omega arith) (omega arith) (omega arith) (omega arith) refl (λ l. refl);
+    counts = counts_near s now (In bytes) refl (omega arith) (omega arith) (omega arith) (omega arith) refl (λ l. refl) (omega arith);
   }
 
 pub in_step : (r : Rules) (s s' : Turn) (entries : List Entry) (bytes : List ℕ) → IsSound r s entries → ComesIn r s bytes s' → Keeps r s s' (In bytes)

@@ -1,5 +1,5 @@
 -- An object lands.
-use Rattle.hpx_steps.proofs.Common.{eq-eqb, Bool, Arrival, IsRowAt, is_to, moves_to, one_if, ◌&&◌, inl, inr, Parcel, parcel_tokens, HasInHand, Mailed, messages, false_from, Accepted, Act, AllByRecursion, Brought, Came, Entry, Event, Exchanges, Id, IfSome, IsManaged, IsParcel, IsSound, IsTidy, Item, Landed, Lands, List, None, Row, Rules, Shipped, Some, Standing, StandsHere, State, TidyAt, Travel, Turn, View, [], ap, arith, asked_by, asks_under, bare, bare_act, bare_due, bare_state, causes, commits, drops, false, find, flat_map, freeing, given_to, goes, hopping, is_some, is_standing, joined, map, move_to, name_of, owes, own_parcels, parcel_travels, refl, same_object, same_object-refl, same_object-sym, session, subst, sum_by, sum_by-cons, sym, target_of, true, unpaid, view, waits_for, weigh, worth, wrote, ℕ, ◌++◌, ◌+◌, ◌∙◌, ◌∷◌, ◌≡◌, ◌≤◌, grants_here, leads_away, tells_come, flow, tells_own, brought, moved_by, move_of, same_arrival, Option, place_in, is_movable, ◌==◌, cond}
+use Rattle.hpx_steps.proofs.Common.{length-append, eq-eqb, Bool, Arrival, IsRowAt, is_to, moves_to, one_if, ◌&&◌, inl, inr, Parcel, parcel_tokens, HasInHand, Mailed, messages, false_from, Accepted, Act, AllByRecursion, Brought, Came, Entry, Event, Exchanges, Id, IfSome, IsManaged, IsParcel, IsSound, IsTidy, Item, Landed, Lands, List, None, Row, Rules, Shipped, Some, Standing, StandsHere, State, TidyAt, Travel, Turn, View, [], ap, arith, asked_by, asks_under, bare, bare_act, bare_due, bare_state, causes, commits, drops, false, find, flat_map, freeing, given_to, goes, hopping, is_some, is_standing, joined, map, move_to, name_of, owes, own_parcels, parcel_travels, refl, same_object, same_object-refl, same_object-sym, session, subst, sum_by, sum_by-cons, sym, target_of, true, unpaid, view, waits_for, weigh, worth, wrote, ℕ, ◌++◌, ◌+◌, ◌∙◌, ◌∷◌, ◌≡◌, ◌≤◌, grants_here, leads_away, tells_come, flow, tells_own, brought, moved_by, move_of, same_arrival, Option, place_in, is_movable, ◌==◌, cond}
 use Rattle.hpx_journal.specs.Frames.{travel_of}
 use Rattle.hpx_journal.specs.Local.{is_travel, stood}
 use Rattle.hpx_part.proofs.MoveRows.{follows_landed}
@@ -167,7 +167,7 @@ module _ (r : Rules) (s : Turn) (entries : List Entry) (h : IsSound r s entries)
         omega (arith, h.arrived a, moves (brought a) 0 refl refl, moves (moved_by a) 0 refl refl, c);
     flows = same_flows r (Some e) s now refl (λ o. refl) (λ f own. let k = flowless s.tables.here f (Shipped act state) tt in omega (arith, moves (flow s.tables.here f) 0 k.0 k.0));
     tracks = same_tracks (λ q. 0) (λ q. 0) s now (λ q. refl) refl refl (λ q. omega (arith, moves (grants_here q) 0 refl refl)) (λ q. omega (arith, moves (leads_away s.tables.here q) 0 refl refl));
-    counts = counts_near s now e refl (omega arith) (omega arith) (omega arith) (omega arith) (omega arith) (λ l. refl);
+    counts = counts_near s now e refl (omega arith) (omega arith) (omega arith) (omega arith) (omega arith) (λ l. refl) (omega (arith, length-append s.tables.came (arrival ∷ [])));
   }
     where
       costs : (row : Row) → IsRowAt s.tables.localities s.tables.here row

@@ -48,7 +48,7 @@ module _ (r : Rules) (s : Turn) (entries : List Entry) (h : IsSound r s entries)
     flows = posted_flows r (Some (Line name bytes)) s now (draws s).tables act refl refl refl refl (λ o. refl) (λ f. refl) (λ f. refl) (λ f. subst (λ v. weigh (flow s.tables.here f) now ≡ weigh (flow s.tables.here f) s + flow s.tables.here f (put_as s.tables v act)) (sym accepts_it) (omega (arith, change.0 (flow s.tables.here f)))) h.flowing.near;
     tracks = posted_tracks (λ q. 0) (λ q. 0) s now (draws s).tables act refl refl refl refl refl (λ w m. m) refl (λ q. omega (arith, change.0 (grants_here q)))
         (λ q. subst (λ v. grants_here q (put_as s.tables v act) ≤ weigh (grants_here q) now) (sym accepts_it) (omega arith)) (λ q. omega (arith, change.0 (leads_away s.tables.here q)));
-    counts = counts_near s now (Line name bytes) refl (omega arith) (omega arith) (omega arith) (omega arith) (omega arith) (λ l. refl);
+    counts = counts_near s now (Line name bytes) refl (omega arith) (omega arith) (omega arith) (omega arith) (omega arith) (λ l. refl) (omega arith);
   }
 
 pub line_step : (r : Rules) (s s' : Turn) (entries : List Entry) (a : Name) (bytes : List ℕ) → IsSound r s entries → Feeds s a bytes s' → Keeps r s s' (Line a bytes)

@@ -200,7 +200,7 @@ module _ (r : Rules) (s : Turn) (entries : List Entry) (h : IsSound r s entries)
     arrived = λ a. omega (arith, h.arrived a, change.0 (brought a), change.0 (moved_by a));
     flows = flows_so r s now e (Loose id ∷ StandsHere x ∷ []) (StandsHere raised ∷ []) change.0 refl (λ o. refl) (λ f. omega arith);
     tracks = tracks_so r s now e (Loose id ∷ StandsHere x ∷ []) (StandsHere raised ∷ []) change.0 (λ o. refl) refl refl (λ o. omega arith) (λ o. omega arith);
-    counts = counts_near s now e refl (omega arith) (omega arith) (omega arith) (omega arith) (omega arith) (λ l. refl);
+    counts = counts_near s now e refl (omega arith) (omega arith) (omega arith) (omega arith) (omega arith) (λ l. refl) (omega arith);
   }
 
 pub merge_step : (r : Rules) (s s' : Turn) (entries : List Entry) (o : Id) (log : ℕ) → IsSound r s entries → Merges s o log s' → Keeps r s s' (Merge o log)

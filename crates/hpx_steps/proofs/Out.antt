@@ -79,7 +79,7 @@ module _ (r : Rules) (s : Turn) (entries : List Entry) (h : IsSound r s entries)
     arrived = λ a. omega (arith, h.arrived a, change.0 (brought a), change.0 (moved_by a));
     flows = flows_so r s now (Out x.to bytes) (Going x ∷ []) [] change.0 refl (λ o. refl) (λ f. omega (arith, told (flow_go x.to f)));
     tracks = tracks_so r s now (Out x.to bytes) (Going x ∷ []) [] change.0 (λ o. refl) refl refl (λ o. omega (arith, told (grants_of o))) (λ o. omega (arith, told (leads_on s.tables.here o)));
-    counts = counts_near s now (Out x.to bytes) refl (omega arith) (omega arith) (omega arith) refl (omega arith) (λ l. refl);
+    counts = counts_near s now (Out x.to bytes) refl (omega arith) (omega arith) (omega arith) refl (omega arith) (λ l. refl) (omega arith);
   }
 
 pub out_step : (r : Rules) (s s' : Turn) (entries : List Entry) (to : ℕ) (bytes : List ℕ) → IsSound r s entries → GoesOut r s to bytes s' → Keeps r s s' (Out to bytes)

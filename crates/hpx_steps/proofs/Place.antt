@@ -101,6 +101,7 @@ module _ (r : Rules) (s : Turn) (entries : List Entry) (h : IsSound r s entries)
     frees = λ o. omega (arith, moves (freeing o) 0 (none (frees_one o) refl refl) refl refl (both act (λ q. 0) 0 refl refl refl));
     says = posted_says (λ q j. 0) (λ q. 0) s now s.tables act refl refl (λ q j. let k = none (tells_at q j) refl refl in omega (arith, turns (tells_come q j), hand_weighs p s hand (tells_come q j) 0 k refl, put_sum (tells_come q j) s.tables (way s.tables act) act 0 refl (λ c e. (refl, λ to. refl, λ i. refl))))
         (λ q. let k = none (tell_of q) refl refl in omega (arith, turns (tells_own q), hand_weighs p s hand (tells_own q) 0 refl k, put_sum (tells_own q) s.tables (way s.tables act) act 0 refl (λ c e. (carried act (tell_of q) 0 refl refl refl c e, λ to. refl, λ i. refl))));
+    came = omega arith;
     arrived = λ a. omega (arith, h.arrived a, turns (brought a), turns (moved_by a), put_sum (brought a) s.tables (way s.tables act) act 0 refl (λ c e. (refl, λ to. refl, λ i. refl)), hand_weighs p s hand (moved_by a) 0 refl refl);
     flows = posted_flows r None s now s.tables act refl refl refl refl (λ o. refl) (λ f. refl) (λ f. refl) (λ f. let k = none_flow f in omega (arith, turns (flow s.tables.here f), hand_weighs p s hand (flow s.tables.here f) 0 k k)) h.flowing.near;
     tracks = posted_tracks (λ q. 0) (λ q. 0) s now s.tables act refl refl refl refl refl (λ w m. m) refl

@@ -132,6 +132,12 @@ move_far k to None p h = inl (sym (to_same k p h))
 move_far k to (Some x) p h = if_so (is_some x.moving) (λ t. absurd (let e : Queue ≡ To p = rw t at h in cc))
     (λ t. if_so (x.place == to) (λ u. away_or_here k x p (eqb-true x.place to u ∙ to_same to p (rw (t, u) at h))) (λ u. absurd (let e : Begin x.place ≡ To p = rw (t, u) at h in cc)))
 
+-- a MOVE goes on to where it moves its object
+move_onward : (k to : ℕ) (x : Option Record) (p home : ℕ) → home ≡ k → move_by k to x ≡ To p → (p ≡ home) ⊎ ((k ≡ home) × (to ≡ p))
+move_onward k to None p home own h = inl (sym (to_same k p h) ∙ sym own)
+move_onward k to (Some x) p home own h = if_so (is_some x.moving) (λ t. absurd (let e : Queue ≡ To p = rw t at h in cc))
+    (λ t. if_so (x.place == to) (λ u. inr (sym own, to_same to p (rw (t, u) at h))) (λ u. absurd (let e : Begin x.place ≡ To p = rw (t, u) at h in cc)))
+
 -- a move that begins there: a record says where the object is, which is not where it moves to
 pub record Begins (t : Tables) (o : Id) (to p : ℕ) : Type 0 where
   pub old : Record
@@ -157,7 +163,7 @@ pub record Goes (t : Tables) (o : Id) (m : Option ℕ) (v : Way) : Type 0 where
   pub accept : v ≡ Accept → (stays_here t o ≡ true) × IfSome m (λ to. to ≡ t.here)
   pub queue : v ≡ Queue → o.home ≡ t.here
   pub behind : v ≡ Queue → away_here t o ≡ true
-  pub onward : (p : ℕ) → v ≡ To p → (p ≡ o.home) ⊎ (t.here ≡ o.home)
+  pub onward : (p : ℕ) → v ≡ To p → (p ≡ o.home) ⊎ ((t.here ≡ o.home) × IfSome m (λ to. to ≡ p))
   pub far : (p : ℕ) → v ≡ To p → o.home ≡ t.here → (p ≡ t.here) ⊎ (away_here t o ≡ true)
   pub begin : (p : ℕ) → v ≡ Begin p → (t.here ≡ o.home) × ((to : ℕ) × (m ≡ Some to) × Begins t o to p)
 
@@ -172,7 +178,7 @@ at_home t o home = record {
   accept = λ e. absurd (by_keeps t.here (record_here t o) e);
   queue = λ e. home;
   behind = λ e. by_queues t.here (record_here t o) e;
-  onward = λ p e. inr (sym home);
+  onward = λ p e. inr (sym home, tt);
   far = λ p e same. by_far t.here (record_here t o) p e;
   begin = λ p e. absurd (by_begins t.here (record_here t o) p e);
 }
@@ -182,7 +188,7 @@ move_home t o to home = record {
   accept = λ e. absurd (move_keeps t.here to (record_here t o) e);
   queue = λ e. home;
   behind = λ e. move_queues t.here to (record_here t o) e;
-  onward = λ p e. inr (sym home);
+  onward = λ p e. move_onward t.here to (record_here t o) p o.home home e;
   far = λ p e same. move_far t.here to (record_here t o) p e;
   begin = λ p e. (sym home, (to, refl, move_begins t o to p (record_here t o) refl e));
 }
@@ -195,6 +201,11 @@ goes t o (Some to) = if_so (stays_here t o && (to == t.here))
     (λ a. let k = and_true (stays_here t o) (to == t.here) a in subst (Goes t o (Some to)) (sym (rw a refl)) (accepted_so t o (Some to) k.0 (eqb-true to t.here k.1)))
     (λ a. if_so (not (o.home == t.here)) (λ b. subst (Goes t o (Some to)) (sym (rw (a, b) refl)) (sent_home t o (Some to)))
     (λ b. subst (Goes t o (Some to)) (sym (rw (a, b) refl)) (move_home t o to (not_home o.home t.here b))))
+
+-- where a message may go that carries it
+pub goes_letter : (t : Tables) (act : Act) (to : ℕ) → (to ≡ (target_of act).home) ⊎ ((t.here ≡ (target_of act).home) × IfSome (move_to act) (λ p. p ≡ to)) → MayGoTo t.here to (parcel_for act)
+goes_letter t act to (inl home) = as_parcel (MayGoTo t.here to) act (inl home) (inl home)
+goes_letter t act to (inr own) = as_parcel (MayGoTo t.here to) act (inr own.0) (inr (own.0, subst (λ (m : Option ℕ). IfSome m (λ p. p ≡ to)) (sym (move_to-bare act)) own.1))
 
 pub way_goes : (t : Tables) (act : Act) → Goes t (target_of act) (move_to act) (way t act)
 way_goes t act = goes t (target_of act) (move_to act)
@@ -234,7 +245,7 @@ put_tidy t act fit near = each (way t act) (way_goes t act)
       (and_true (stands_here t (target_of act)) (not (leaves_here t (target_of act))) a.0).0,
     )
     each Queue k = (fit_parcel act fit, as_parcel (IsWaitingFor t.here (target_of act).number) act (k.queue refl, refl) (k.queue refl, refl))
-    each (To to) k = (sent to (parcel_for act) (fit_parcel act fit) (as_parcel (MayGoTo t.here to) act (k.onward to refl) (k.onward to refl)) (as_parcel (IsOwn t.here t.profile.credit_log) act tt tt) (λ other. as_parcel (IsGrantFor t.here to) act tt tt)).0
+    each (To to) k = (sent to (parcel_for act) (fit_parcel act fit) (goes_letter t act to (k.onward to refl)) (as_parcel (IsOwn t.here t.profile.credit_log) act tt tt) (λ other. as_parcel (IsGrantFor t.here to) act tt tt)).0
     each (Begin place) k =
         let b = k.begin place refl in
         (sent place (Go act) (move_fit act b.1.0 fit b.1.1) (b.0, λ e. b.1.2.away (some_same b.1.0 place (sym b.1.1 ∙ (sym (move_to-bare act) ∙ e)))) tt (λ other. there place b.1.2.old b.1.2.at (near (target_of act) b.1.2.old b.1.2.was) other)).0
@@ -304,17 +315,30 @@ begins_places t act h = each (way t act) (way_goes t act)
 
 -- ---- what moves, and what waits for it
 
--- a move that begins is granted
-sent_grants : (o : Id) (act : Act) (place : ℕ) (other : Bool) → same_object o (target_of act) ≡ true → 1 ≤ grants_here o (sent_as other place (Go act))
-sent_grants o act place true same = rw same (omega arith)
-sent_grants o act place false same = rw same (omega arith)
+-- a move that begins from here is granted here
+sent_grants : (o : Id) (act : Act) (place : ℕ) (other : Bool) → other ≡ false → same_object o (target_of act) ≡ true → 1 ≤ grants_here o (sent_as other place (Go act))
+sent_grants o act place true own same = cc
+sent_grants o act place false own same = rw same (omega arith)
 
-begun_moves : (t : Tables) (v : Way) (act : Act) (o : Id) → away_in t.here o (begins v act t.records) ≡ true → (away_in t.here o t.records ≡ true) ⊎ (1 ≤ grants_here o (put_as t v act))
-begun_moves t Accept act o m = inl m
-begun_moves t Queue act o m = inl m
-begun_moves t (To to) act o m = inl m
-begun_moves t (Begin place) act o m = if_so (same_object (target_of act) o)
-    (λ same. inr (sent_grants o act place (is_other t place) (same_object-sym (target_of act) o same)))
+here_own : (t : Tables) → is_other t t.here ≡ false
+here_own t = each (nat_lt t.here t.localities) (t.here == t.here) (eq-eqb t.here t.here refl)
+  where
+    each : (a b : Bool) → b ≡ true → (a && not b) ≡ false
+    each true b e = rw e refl
+    each false b e = refl
+
+begun_moves : (t : Tables) (v : Way) (act : Act) (o : Id) → Goes t (target_of act) (move_to act) v → away_in t.here o (begins v act t.records) ≡ true → (away_in t.here o t.records ≡ true) ⊎ (1 ≤ grants_here o (put_as t v act))
+begun_moves t Accept act o k m = inl m
+begun_moves t Queue act o k m = inl m
+begun_moves t (To to) act o k m = inl m
+begun_moves t (Begin place) act o k m = if_so (same_object (target_of act) o)
+    (λ same.
+    let b = (k.begin place refl).1.2 in
+    let twin : bare (target_of act) ≡ bare o = same_object-true (target_of act) o same in
+    elim (away_or_here t.here b.old place b.at) [
+      | inl here ↦ inr (sent_grants o act place (is_other t place) (ap (is_other t) here ∙ here_own t) (same_object-sym (target_of act) o same))
+      | inr away ↦ inl (subst (λ (x : Id). away_in t.here x t.records ≡ true) twin (ap (λ (x : Option Record). option_map_or (is_away t.here) x false) b.was ∙ away))
+    ])
     (λ off. inl (subst (λ (x : Option Record). option_map_or (is_away t.here) x false ≡ true)
     (remade_others (target_of act) (λ r. record r { moving = move_to act }) (λ r. refl) o t.records off) m))
 
@@ -372,7 +396,7 @@ pub posted_tracks : (g f : Id → ℕ) (s s' : Turn) (t : Tables) (act : Act) �
     → ((o : Id) → f o + weigh (leads_away t.here o) s' ≤ weigh (leads_away t.here o) s + leads_away t.here o (put_as t (way t act) act)) → Tracks g f s s'
 posted_tracks g f s s' t act here records there now later queued stray kept put on = record {
   kept = kept;
-  away = λ o m. elim (begun_moves t (way t act) act o (subst (λ (k : ℕ). away_in k o (begins (way t act) act t.records) ≡ true) there (subst (λ (rs : List Record). away_in s'.tables.here o rs ≡ true) now m))) [
+  away = λ o m. elim (begun_moves t (way t act) act o (way_goes t act) (subst (λ (k : ℕ). away_in k o (begins (way t act) act t.records) ≡ true) there (subst (λ (rs : List Record). away_in s'.tables.here o rs ≡ true) now m))) [
     | inl k ↦ inl (was o k)
     | inr k ↦ inr (omega (arith, k, put o))
   ];

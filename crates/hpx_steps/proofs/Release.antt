@@ -87,6 +87,7 @@ module _ (r : Rules) (s : Turn) (entries : List Entry) (h : IsSound r s entries)
     frees = λ o. omega (arith, moves (freeing o) 0 refl refl (both act (λ q. 0) 0 refl refl refl));
     says = posted_says (λ q j. 0) (λ q. 0) s now less.tables act refl refl (λ q j. omega (arith, turns (tells_come q j), put_sum (tells_come q j) less.tables (way less.tables act) act 0 refl (λ c e. (refl, λ to. refl, λ i. refl))))
         (λ q. omega (arith, turns (tells_own q), put_sum (tells_own q) less.tables (way less.tables act) act 0 refl (λ c e. (carried act (tell_of q) 0 refl refl refl c e, λ to. refl, λ i. refl))));
+    came = omega arith;
     arrived = λ a. omega (arith, h.arrived a, turns (brought a), turns (moved_by a), put_sum (brought a) less.tables (way less.tables act) act 0 refl (λ c e. (refl, λ to. refl, λ i. refl)));
     flows = posted_flows r None s now less.tables act refl refl refl refl (λ o. refl) (λ f. refl) (λ f. refl) (λ f. let k = of_both (λ q. flow_in s.tables.here f q ≡ 0) (flowless s.tables.here f (Apply act) tt).0 (flowless s.tables.here f (Move act) tt).0 in omega (arith, turns (flow s.tables.here f), k)) h.flowing.near;
     tracks = posted_tracks (λ q. 0) (λ q. 0) s now less.tables act refl refl refl refl refl

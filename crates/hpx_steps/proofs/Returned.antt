@@ -395,7 +395,7 @@ module _ (r : Rules) (s : Turn) (entries : List Entry) (h : IsSound r s entries)
     flows = record { flows = flow_turns; ends = ends_turn; near = near_now };
     tracks = tracks_by (λ q. 0) (λ q. 0) s now (away_still s.tables.here id old (lowered after id) s.tables.records records recounts (λ x is m. moved (lowered_away s.tables.here after x id is m))) refl refl
         (λ q. let k = none_in (grants_of q) refl refl in omega (arith, leaves (grants_here q) 0 k k refl refl)) free_goes;
-    counts = counts_near s now e refl (omega arith) (omega arith) (omega arith) (omega arith) (omega arith) (λ l. refl);
+    counts = counts_near s now e refl (omega arith) (omega arith) (omega arith) (omega arith) (omega arith) (λ l. refl) (omega arith);
   }
     where
       if_last : (b c : Bool) → one_if (b && c) ≡ cond b (one_if c) 0

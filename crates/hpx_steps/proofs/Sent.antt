@@ -85,7 +85,7 @@ module _ (r : Rules) (s : Turn) (entries : List Entry) (h : IsSound r s entries)
     flows = posted_flows r (Some (Sent name)) s now before.tables act refl refl refl refl (λ o. refl) (λ f. refl) (λ f. refl) (λ f. omega (arith, turned (flow s.tables.here f))) h.flowing.near;
     tracks = posted_tracks (λ q. 0) (λ q. 0) s now before.tables act refl refl refl refl refl (λ w m. m) refl (λ q. omega (arith, turned (grants_here q))) (λ q. omega (arith, turned (grants_here q)))
         (λ q. omega (arith, turned (leads_away s.tables.here q)));
-    counts = counts_near s now (Sent name) refl (omega arith) (omega arith) (omega arith) (omega arith) (omega arith) (λ l. refl);
+    counts = counts_near s now (Sent name) refl (omega arith) (omega arith) (omega arith) (omega arith) (omega arith) (λ l. refl) (omega arith);
   }
     where
       costs : (row : Row) → goes r row (Sent name) + of_act row ≡ causes r row (Sent name)

@@ -1,5 +1,6 @@
 -- What is done without an entry.
-use Rattle.hpx_steps.proofs.Common.{IsRowAt, AllByRecursion, AreFired, AreNumbered, AreNumbers, AreRules, Entry, Event, HasCommits, HasPlaces, Id, IsOrderly, IsPaid, IsSound, IsTidy, Leads, List, None, Row, Rules, SendsOwn, StandsFor, Tables, Turn, [], ap, append-nil, arith, asked_by, commits, freeing, given_to, grow, hopping, joined, map, part, refl, subst, sym, unpaid, view, waits_for, weaker_leads, weigh, ℕ, ◌+◌, ◌∙◌, ◌∷◌, ◌≡◌, ◌≢◌, ◌≤◌, HasBegun, IsPlaced, IsFlowing, Arrival, brought, moved_by, Option}
+use Rattle.hpx_steps.proofs.Common.{IsRowAt, AllByRecursion, AreFired, AreNumbered, AreNumbers, AreRules, Entry, Event, HasCommits, HasPlaces, Id, IsOrderly, IsPaid, IsSound, IsTidy, Leads, List, None, Row, Rules, SendsOwn, StandsFor, Tables, Turn, [], ap, append-nil, arith, asked_by, commits, freeing, given_to, grow, hopping, joined, map, part, refl, subst, sym, unpaid, view, waits_for, weaker_leads, weigh, ℕ, ◌+◌, ◌∙◌, ◌∷◌, ◌≡◌, ◌≢◌, HasBegun, IsPlaced, IsFlowing, Arrival, brought, moved_by, Option, AreMoved, Local, at_boot, length, ◌≤◌}
+use Rattle.hpx_journal.specs.Local.{after}
 use Rattle.hpx_steps.specs.Homes.{HasHomes}
 use Rattle.hpx_steps.proofs.Calm.{SameNumbers}
 use Rattle.hpx_steps.proofs.Then.{Tracks, begun_then, shown_then, Says, placed_then, Flows, flowing_then}
@@ -21,6 +22,11 @@ pub record Stills (r : Rules) (s s' : Turn) : Type 0 where
   pub says : Says (λ o j. 0) (λ o. 0) s s'
   pub flows : Flows r None s s'
   pub arrived : (a : Arrival) → weigh (brought a) s' ≤ weigh (moved_by a) s'
+  pub came : length s.tables.came ≤ length s'.tables.came
+
+moved_more : (r : Rules) (n m : ℕ) (l : Local) (es : List Entry) → n ≤ m → AreMoved r n l es → AreMoved r m l es
+moved_more r n m l [] less h = tt
+moved_more r n m l (e ∷ es) less h = (omega (arith, h.0, less), moved_more r n m (after r l e.event) es less h.1)
 
 fired_more : (n m : ℕ) (es : List Event) → n ≤ m → AreFired n es → AreFired m es
 fired_more n m [] less h = tt
@@ -59,8 +65,17 @@ still_sound r s s' entries h k homes =
       homes = homes rules keeps flowing;
       arrived = k.arrived;
       numbers = let n = subst (λ (t : Tables). AreNumbers r (record s { tables = t }) entries) (sym k.same)
-          (record { born = h.numbers.born; few = h.numbers.few; asked = h.numbers.asked; sent = h.numbers.sent; taken = h.numbers.taken; few_answers = h.numbers.few_answers; answered = h.numbers.answered }) in
-          record { born = n.born; few = n.few; asked = n.asked; sent = n.sent; taken = n.taken; few_answers = n.few_answers; answered = n.answered };
+          (record {
+            born = h.numbers.born;
+            few = h.numbers.few;
+            asked = h.numbers.asked;
+            sent = h.numbers.sent;
+            taken = h.numbers.taken;
+            few_answers = h.numbers.few_answers;
+            answered = h.numbers.answered;
+            moved = λ clean. moved_more r (length s.tables.came) (length s'.tables.came) (at_boot r s.tables.here) es k.came (h.numbers.moved clean);
+          }) in
+          record { born = n.born; few = n.few; asked = n.asked; sent = n.sent; taken = n.taken; few_answers = n.few_answers; answered = n.answered; moved = n.moved };
     }
 
 -- ---- between turns the last entry is forgotten

@@ -1,7 +1,7 @@
 -- An action that comes onto the own desk has no place to go.
 use Rattle.hpx_steps.proofs.Common.{Accept, Accepted, Act, Outgoing, queued_parcels, Agree, Agree-found, Among, Apply, AreRules, Begin, Bool, Entry, Go, Id, IsCalm, IsFlowing, IsSound, List, Local, Move, None, Option, Parcel, PlacedAt, Queue, Record, Rules, Shows, Single, Some, Standing, StandsFor, Tables, To, Turn, Way, [], acts_on, and_true, ap, append-nil, append_assoc, arith, at_boot, bare_act, bare_standing, cases_lt, cond, count_by, counted, dies, eq-eqb, eqb-true, false, find, find_record, flat_map, flow, flow_comes, flow_goes, flow_of, go_for, grants, inl, inr, is_act, is_movable, is_other, is_some, is_standing, leaves_here, list_any, map, means, messages, move_by, move_to, move_way, name_of, nat_le, nat_lt, nat_tests, not, one_if, option_map_or, own, own_parcels, parcel_acts, parcel_for, parcels, part, record_here, record_moves, record_rests, refl, run_local, same_object, stands_here, stays_here, subst, sum_by, sum_by-append, sum_by-cons, sym, target_of, true, view, waiting, way, way_by, way_of, way_to, weigh, zero, suc, ℕ, ◌&&◌, ◌++◌, ◌+◌, ◌<◌, ◌==◌, ◌||◌, ◌∙◌, ◌∷◌, ◌≡◌, ◌≤◌, ◌⊎◌}
 use Rattle.hpx_steps.proofs.ByRows.{if_so}
-use Rattle.hpx_steps.proofs.Changes.{all_among, among_either, found_among}
+use Rattle.hpx_steps.proofs.Changes.{all_among, among_left, among_right, found_among}
 use Rattle.hpx_steps.proofs.Mails.{own_is}
 use Rattle.hpx_steps.proofs.Puts.{none_moving, not_home, or_parts, to_same}
 use Rattle.hpx_steps.proofs.Records.{found_counted}
@@ -109,15 +109,6 @@ among_split : {X : Type 0} (x : X) (xs : List X) → Among x xs → (l : List X)
 among_split x [] h = absurd h
 among_split x (y ∷ ys) (inl e) = ([], ys, ap (λ z. z ∷ ys) e)
 among_split x (y ∷ ys) (inr h) = let k = among_split x ys h in (y ∷ k.0, k.1, ap (λ zs. y ∷ zs) k.2)
-
-among_left : {X : Type 0} (x : X) (xs ys : List X) → Among x xs → Among x (xs ++ ys)
-among_left x [] ys h = absurd h
-among_left x (z ∷ zs) ys (inl e) = inl e
-among_left x (z ∷ zs) ys (inr h) = inr (among_left x zs ys h)
-
-among_right : {X : Type 0} (x : X) (xs ys : List X) → Among x ys → Among x (xs ++ ys)
-among_right x [] ys h = h
-among_right x (z ∷ zs) ys h = inr (among_right x zs ys h)
 
 -- what is in one of these is in all of them
 among_flat : (a : Act) (p : Parcel) (ps : List Parcel) → Among p ps → Among a (parcel_acts p) → Among a (flat_map parcel_acts ps)

@@ -1,5 +1,5 @@
 -- One more entry: what has to be shown of it once, for all that holds of a locality and its part.
-use Rattle.hpx_steps.proofs.Common.{Act, Agree, AllByRecursion, Among, Apply, AreFired, AreNumbered, AreNumbers, AreRules, Arrival, Bool, EndsAt, Entry, Event, Flow, HasBegun, HasCommits, HasPlaces, Id, IsFlowing, IsOrderly, IsPaid, IsPlaced, IsRowAt, IsSound, IsTidy, Leads, List, Local, None, Option, Parcel, Record, Row, Rules, SendsOwn, Shipped, Shows, Some, StandsFor, State, Turn, Waiting, [], act_in, all_append, all_count, ap, arith, arrives_at, asked_by, asks_for, asks_under, at_all, at_boot, away_here, bare_act, brought, causes, clean_front, come, commits, cond, count_by, dies, done_after, entry_at, false, find_record, fired_of, fires_one, flow, flow_comes, flow_goes, flow_of, freeing, given_to, gives_for, goes, gone, gone_to, grants_gone, grants_here, grants_made, grow, hopping, inl, inr, ins, is_act, is_answer, is_free_of, is_freed, is_landed_of, is_to, joined, joins, leads_away, leads_on, length, length-append, map, map-append, move_to, moved_by, one_if, outs, outs_by, part, part_append, part_at, record_here, record_moves, record_rests, refl, run_local, run_local_append, spends, starts, subst, sum_by-append, sum_by-cons, sym, takes_such, target_of, tells_at, tells_come, tells_own, true, unpaid, view, waits_for, weigh, ℕ, ◌++◌, ◌+◌, ◌<◌, ◌==◌, ◌∙◌, ◌∷◌, ◌≡◌, ◌≢◌, ◌≤◌, ◌⊎◌}
+use Rattle.hpx_steps.proofs.Common.{Act, Agree, AllByRecursion, Among, Apply, AreFired, AreMoved, AreNumbered, AreNumbers, AreRules, Arrival, Bool, EndsAt, Entry, Event, Flow, HasBegun, HasCommits, HasPlaces, Id, IsFlowing, IsOrderly, IsPaid, IsPlaced, IsRowAt, IsSound, IsTidy, Leads, List, Local, None, Option, Parcel, Record, Row, Rules, SendsOwn, Shipped, Shows, Some, StandsFor, State, Turn, Waiting, [], act_in, all_append, all_count, ap, arith, arrives_at, asked_by, asks_for, asks_under, at_all, at_boot, away_here, bare_act, brought, causes, clean_front, come, commits, cond, count_by, dies, done_after, entry_at, false, find_record, fired_of, fires_one, flow, flow_comes, flow_goes, flow_of, freeing, given_to, gives_for, goes, gone, gone_to, grants_left, grants_here, grants_made, grow, hopping, inl, inr, ins, is_act, is_answer, is_free_of, is_freed, is_landed_of, is_move, is_to, joined, joins, lands_one, leads_away, leads_on, length, length-append, map, map-append, move_to, moved_by, moves_done, one_if, outs, outs_by, part, part_append, part_at, record_here, record_moves, record_rests, refl, run_local, run_local_append, spends, starts, subst, sum_by-append, sum_by-cons, sym, takes_such, target_of, tells_at, tells_come, tells_own, true, unpaid, view, waits_for, weigh, ℕ, ◌++◌, ◌+◌, ◌<◌, ◌==◌, ◌∙◌, ◌∷◌, ◌≡◌, ◌≢◌, ◌≤◌, ◌⊎◌}
 use Rattle.hpx_steps.specs.Homes.{HasHomes}
 use Rattle.hpx_journal.specs.Foreign.{IsUndrawn, kept}
 use Rattle.hpx_journal.specs.Local.{after}
@@ -62,7 +62,7 @@ pub same_tracks : (g f : Id → ℕ) (s s' : Turn) → ((o : Id) → away_here s
     → ((o : Id) → weigh (grants_here o) s ≤ g o + weigh (grants_here o) s') → ((o : Id) → f o + weigh (leads_away s.tables.here o) s' ≤ weigh (leads_away s.tables.here o) s) → Tracks g f s s'
 same_tracks g f s s' same queued stray kept onward = tracks_by g f s s' (λ o m. sym (same o) ∙ m) queued stray kept (λ o. inl (onward o))
 
-pub begun_then : (r : Rules) (s s' : Turn) (g f : Id → ℕ) (es es' : List Entry) → s'.tables.here ≡ s.tables.here → ((o : Id) → all_count (grants_gone r o) es' ≡ all_count (grants_gone r o) es + g o)
+pub begun_then : (r : Rules) (s s' : Turn) (g f : Id → ℕ) (es es' : List Entry) → s'.tables.here ≡ s.tables.here → ((o : Id) → all_count (grants_left o) es' ≡ all_count (grants_left o) es + g o)
     → ((o : Id) → all_count (gone r (leads_on s.tables.here o)) es' ≡ all_count (gone r (leads_on s.tables.here o)) es + f o) → HasBegun r s es → Tracks g f s s'
     → (IsClean r (at_boot r s.tables.here) es' → IsClean r (at_boot r s.tables.here) es × ((l : Local) × Shows (view s) l × AreDrawn s.tables.here l)) → HasBegun r s' es'
 begun_then r s s' g f es es' here more most h k shown = record {
@@ -93,7 +93,7 @@ begun_then r s s' g f es es' here more most h k shown = record {
       ]);
 }
   where
-    still : (o : Id) → 1 ≤ grants_made r s es o → 1 ≤ grants_made r s' es' o
+    still : (o : Id) → 1 ≤ grants_made s es o → 1 ≤ grants_made s' es' o
     still o some = omega (arith, some, k.kept o, more o)
 
 -- ---- and says where objects are only as it was told
@@ -229,6 +229,8 @@ pub record Counts (s s' : Turn) (e : Event) : Type 0 where
   pub few_answers : s'.tables.answered ≤ s.tables.answered + 1
   pub answered : (l : Local) → Agree is_act l.fired (map bare_act (fired_of s.tables.running (commits s)))
       → s'.tables.answered + count_by is_answer l.done ≡ s.tables.answered + count_by is_answer (done_after l e)
+  pub moved : (l : Local) → Agree is_act l.fired (map bare_act (fired_of s.tables.running (commits s)))
+      → lands_one e + length s.tables.came + moves_done l ≤ length s'.tables.came + count_by is_move (done_after l e)
 
 -- where no more own Asks are on their way
 pub fewer : (s s' : Turn) → s.tables.asked ≤ s'.tables.asked → ((n : ℕ) → weigh (asks_under n) s' ≤ weigh (asks_under n) s) → AreNumbered s → AreNumbered s'
@@ -243,7 +245,7 @@ pub record Keeps (r : Rules) (s s' : Turn) (e : Event) : Type 0 where
   pub numbered : AreNumbered s → AreNumbered s'
   pub pays : Pays r s s' e
   pub orders : Orders r s s' e
-  pub tracks : Tracks (λ o. grants_gone r o e) (λ o. gone r (leads_on s.tables.here o) e) s s'
+  pub tracks : Tracks (λ o. grants_left o e) (λ o. gone r (leads_on s.tables.here o) e) s s'
   pub says : Says (λ o j. come r (tells_at o j) e) (λ o. one_if (is_landed_of o e)) s s'
   pub flows : Flows r (Some e) s s'
   pub arrived : (a : Arrival) → weigh (brought a) s' ≤ weigh (moved_by a) s'
@@ -274,6 +276,7 @@ keeps_landed r s s' e landed k = record {
     taken = k.counts.taken;
     few_answers = k.counts.few_answers;
     answered = k.counts.answered;
+    moved = k.counts.moved;
   };
 }
 
@@ -299,6 +302,25 @@ fired_append n m (x ∷ es) e h less = (
 done_is : (r : Rules) (l : Local) (e : Event) → (after r l e).done ≡ done_after l e
 unfolding after
 done_is r l e = refl
+
+moved_append : (r : Rules) (n m : ℕ) (l : Local) (es : List Entry) (x : Entry) → AreMoved r n l es
+    → lands_one x.event + n + moves_done (run_local r l es) ≤ m + count_by is_move (done_after (run_local r l es) x.event) → AreMoved r m l (es ++ x ∷ [])
+moved_append r n m l [] x h less = (
+  omega (arith, less, sum_by-cons (λ (y : Entry). lands_one y.event) x [], ap (count_by is_move) (done_is r l x.event)),
+  tt,
+)
+moved_append r n m l (y ∷ es) x h less = (
+  omega (
+    arith,
+    h.0,
+    less,
+    sum_by-append (λ (z : Entry). lands_one z.event) (y ∷ es) (x ∷ []),
+    sum_by-cons (λ (z : Entry). lands_one z.event) x [],
+    ap moves_done (run_local_append r (after r l y.event) es (x ∷ [])),
+    ap (count_by is_move) (done_is r (run_local r (after r l y.event) es) x.event),
+  ),
+  moved_append r n m (after r l y.event) es x h.1 less,
+)
 
 module _ (r : Rules) (s s' : Turn) (e : Event) (entries : List Entry) (h : IsSound r s entries) (k : Keeps r s s' e) where
   abbrev here : ℕ
@@ -354,6 +376,10 @@ module _ (r : Rules) (s s' : Turn) (e : Event) (entries : List Entry) (h : IsSou
           ap (λ (x : Local). count_by is_answer x.done) (run_local_append r (at_boot r here) old one),
           ap (count_by is_answer) (done_is r l e),
         ));
+    moved = rw (k.counts.here, grown_here) (λ clean.
+        let first = (clean_front r (at_boot r here) old one clean).0 in
+        moved_append r (length s.tables.came) (length s'.tables.came) (at_boot r here) old (entry_at here e) (h.numbers.moved first)
+        (k.counts.moved (run_local r (at_boot r here) old) (h.keeps.shows first).acts.fired));
   }
     where
       grown_here : part here (entries ++ one) ≡ old ++ one
@@ -387,7 +413,7 @@ module _ (r : Rules) (s s' : Turn) (e : Event) (entries : List Entry) (h : IsSou
     commits = k.commits;
     paid = subst (IsPaid r s') (sym grown) paid_then;
     orderly = subst (IsOrderly r s') (sym grown) orderly_then;
-    begun = subst (HasBegun r s') (sym grown) (begun_then r s s' (λ o. grants_gone r o e) (λ o. gone r (leads_on s.tables.here o) e) old (old ++ one) k.counts.here (λ o. more (grants_gone r o)) (λ o. more (gone r (leads_on s.tables.here o))) h.begun k.tracks
+    begun = subst (HasBegun r s') (sym grown) (begun_then r s s' (λ o. grants_left o e) (λ o. gone r (leads_on s.tables.here o) e) old (old ++ one) k.counts.here (λ o. more (grants_left o)) (λ o. more (gone r (leads_on s.tables.here o))) h.begun k.tracks
         (λ clean. let first = (clean_front r (at_boot r here) old one clean).0 in (first, shown_then r s entries h first)));
     placed = subst (IsPlaced r s') (sym grown) (placed_then r s s' (λ o j. come r (tells_at o j) e) (λ o. one_if (is_landed_of o e)) old (old ++ one) k.counts.here (λ o j. more (come r (tells_at o j))) (λ o. more (λ x. one_if (is_landed_of o x))) h.placed k.says);
     flowing = flows_then;

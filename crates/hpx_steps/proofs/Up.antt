@@ -139,9 +139,9 @@ module _ (r : Rules) (s : Turn) (entries : List Entry) (h : IsSound r s entries)
     says = same_says (λ q j. 0) (λ q. 0) s now refl (λ q j. omega (arith, moves (tells_come q j) 0 refl refl (λ o. refl))) (λ q. let k : weigh (tells_own q) now + (0 + total (tells_own q) out) ≡ weigh (tells_own q) s + total (tells_own q) sent = change.0 (tells_own q) in omega (arith, k, owned q));
     arrived = λ a. omega (arith, h.arrived a, moves (brought a) 0 refl refl (λ o. refl), moves (moved_by a) 0 refl refl (λ o. refl));
     flows = same_flows r (Some e) s now refl (λ o. refl) (λ f own. let k : weigh (flow s.tables.here f) now + (0 + total (flow s.tables.here f) out) ≡ weigh (flow s.tables.here f) s + total (flow s.tables.here f) sent = change.0 (flow s.tables.here f) in omega (arith, k, flowing f own));
-    tracks = same_tracks (λ q. 0) (λ q. 0) s now (λ q. refl) refl refl (λ q. let k = none (grants_of q) refl refl in omega (arith, moves (grants_here q) 0 k k (λ o. refl)))
+    tracks = same_tracks (λ q. 0) (λ q. 0) s now (λ q. refl) refl refl (λ q. let k = none (grants_of q) refl refl in omega (arith, moves (grants_here q) 0 k refl (λ o. refl)))
         (λ q. let k = none (leads_on s.tables.here q) refl refl in omega (arith, moves (leads_away s.tables.here q) 0 refl k (λ o. refl)));
-    counts = counts_near s now e refl (omega arith) (omega arith) (omega arith) (omega arith) (omega arith) (λ l. refl);
+    counts = counts_near s now e refl (omega arith) (omega arith) (omega arith) (omega arith) (omega arith) (λ l. refl) (omega arith);
   }
 
 -- so it is with the steps

@@ -30,8 +30,8 @@ use Rattle.hpx_tables.specs.Pending.{Waits, action_of, fired_of, ids_kept, ids_n
 use Rattle.hpx_tables.specs.Tables.{Tables, messages, fired_acts}
 use Rattle.hpx_steps.specs.Frames.{IsOnItsWay, IsForHere}
 use Rattle.hpx_steps.specs.Paused.{Apart, Single, HasSplit, bare_names, names_of}
-use Rattle.hpx_steps.specs.Rows.{Row, TellsOf, IsRowAt, Actions, Landeds, AreFired, goes, causes, spends, starts, weight, owes, brings, follows, tells_at, tell_of, one_if}
-use Rattle.hpx_steps.specs.Sound.{IsOwn, IsWaitingFor, IsGranted, IsStray, IsLive, SendsOwn, all_count, gone, gone_to, come, asks_for, gives_for, IsSound, grants_of, grants_gone, away_here, leads_on, brought, moved_by}
+use Rattle.hpx_steps.specs.Rows.{Row, TellsOf, IsRowAt, Actions, Landeds, AreFired, AreMoved, goes, causes, spends, starts, weight, owes, brings, follows, tells_at, tell_of, one_if}
+use Rattle.hpx_steps.specs.Sound.{IsOwn, IsWaitingFor, IsGranted, IsStray, IsLive, SendsOwn, all_count, gone, gone_to, come, asks_for, gives_for, IsSound, grants_of, grants_left, away_here, leads_on, brought, moved_by}
 use Rattle.hpx_steps.specs.Turn.{at_rest, in_release, bare_due, bare_standing, counted, parcel_tokens, parcel_acts, parcel_travels, parcel_asks, parcel_frees, tokens_of}
 use Rattle.hpx_steps.specs.Calls.{act_in}
 use Rattle.hpx_steps.specs.Items.{Among, weigh}
@@ -212,22 +212,22 @@ pub record AreInOrder (r : Rules) (localities k log : ℕ) (desk : List Parcel) 
 abbrev pub IsOrderly : Rules → Tables → List Entry → Type 0
 IsOrderly r t entries = AreInOrder r t.localities t.here t.profile.credit_log t.desk t.outgoing t.pending entries
 
--- the grants of moves of o that are here: on their way, taken up, or kept for good
+-- the grants of moves of o that are here: on the desk, taken up, or kept for good
 abbrev pub grants_in : Id → Tables → ℕ
-grants_in o t = sum_by (grants_of o) t.desk + sum_by (λ (x : Outgoing). grants_of o x.parcel) t.outgoing + sum_by (grants_of o) t.leaving + sum_by (grants_of o) t.stray
+grants_in o t = sum_by (grants_of o) t.desk + sum_by (grants_of o) t.leaving + sum_by (grants_of o) t.stray
 
--- how many moves of o were granted: those that are here, and those that went, or with which it left
-abbrev pub grants_of_all : Rules → Tables → List Entry → Id → ℕ
-grants_of_all r t entries o = all_count (grants_gone r o) entries + grants_in o t
+-- how many moves of o from here were granted: those that are here, and those with which it left
+abbrev pub grants_of_all : Tables → List Entry → Id → ℕ
+grants_of_all t entries o = all_count (grants_left o) entries + grants_in o t
 
--- a move of an object was granted before: where its record says that it moves or is elsewhere, where an action waits for it, or stays
+-- a move of an object from here was granted before: where its record says that it moves or is elsewhere, where an action waits for it, or stays
 -- for good without it, and where an action on it goes on from its home, or another locality is told that it is to be freed. And an object that
 -- came to here stays for good only where no other locality can have sent it
 pub record MovesBegan (r : Rules) (t : Tables) (entries : List Entry) : Type 0 where
-  pub away : (o : Id) → away_here t o ≡ true → 1 ≤ grants_of_all r t entries o
-  pub queued : AllByRecursion (λ w. 1 ≤ grants_of_all r t entries (target_of (act_in w.item))) t.queued
-  pub stray : (act : Act) → Among (Apply act) t.stray → 1 ≤ grants_of_all r t entries (target_of act)
-  pub onward : (o : Id) → 1 ≤ all_count (gone r (leads_on t.here o)) entries + sum_by (λ (x : Outgoing). leads_on t.here o x.parcel) t.outgoing → 1 ≤ grants_of_all r t entries o
+  pub away : (o : Id) → away_here t o ≡ true → 1 ≤ grants_of_all t entries o
+  pub queued : AllByRecursion (λ w. 1 ≤ grants_of_all t entries (target_of (act_in w.item))) t.queued
+  pub stray : (act : Act) → Among (Apply act) t.stray → 1 ≤ grants_of_all t entries (target_of act)
+  pub onward : (o : Id) → 1 ≤ all_count (gone r (leads_on t.here o)) entries + sum_by (λ (x : Outgoing). leads_on t.here o x.parcel) t.outgoing → 1 ≤ grants_of_all t entries o
   pub lands : IsClean r (at_boot r t.here) entries → (act : Act) (state : State) → Among (Shipped act state) t.stray → is_to t.here (move_to act) ≡ false
 
 -- each record says that its object is here, or where it was told that it has landed; and no more is to be told of here than landed
@@ -254,6 +254,7 @@ pub record StandsWith (r : Rules) (t : Tables) (due : List Due) (loose : List Id
   pub few_answers : t.answered ≤ length entries
   pub answered : IsClean r (at_boot r t.here) (part t.here entries)
       → t.answered ≡ count_by is_answer (run_local r (at_boot r t.here) (part t.here entries)).done
+  pub moved : IsClean r (at_boot r t.here) (part t.here entries) → AreMoved r (length t.came) (at_boot r t.here) (part t.here entries)
 
 -- what a journal is judged by, over these acts at n localities
 abbrev pub rules_of : (ℕ → ℕ → ℕ → State → Act → Outcome) → ℕ → Profile → Rules

@@ -1,12 +1,14 @@
 -- What each message and each entry counts, row by row: nothing that was caused is lost.
 use Rattle.std.specs.Prelude.{ℕ, Bool, true, false, cond, List, [], ◌∷◌, ◌≤◌, ◌+◌, ◌==◌, ◌&&◌, ◌||◌, Option, Some, None, ◌≢◌, ◌<◌, ◌≡◌}
-use Rattle.std.specs.List.{sum_by}
+use Rattle.std.specs.List.{sum_by, count_by}
 use Rattle.hpx_value.specs.Ids.{same_object}
 use Rattle.hpx_journal.specs.Data.{Id, Act, Parcel, Apply, Return, Ask, Give, Cached, Move, Go, Shipped, Arrived, Free}
 use Rattle.hpx_journal.specs.Entries.{Rules, target_of, move_to}
 use Rattle.hpx_journal.specs.Rows.{is_to}
 use Rattle.hpx_journal.specs.Laws.{is_free_of}
-use Rattle.hpx_part.specs.Data.{Event, Line, Fire, Sent, Up, Asked, Given, Count, Refused, Reason, Freed, Left, Landed, Mail, Out, In}
+use Rattle.hpx_journal.specs.Local.{after}
+use Rattle.hpx_journal.specs.Whole.{run_local}
+use Rattle.hpx_part.specs.Data.{Entry, Event, Local, Line, Fire, Sent, Up, Asked, Given, Count, Refused, Reason, Freed, Left, Landed, Mail, Out, In}
 use Rattle.hpx_steps.specs.Items.{Item, Came, Mailed, OnDesk, Going, Queued, Leaving, Stray, Brought, Untold, Accepted}
 
 -- what is counted: messages of a kind, counts of objects, refusals of credit, actions, objects that leave, what tells that one landed,
@@ -225,6 +227,25 @@ fires_one _ = 0
 abbrev pub AreFired : ℕ → List Event → Type 0
 AreFired n [] = Unit {0}
 AreFired n (e ∷ es) = (sum_by joins (e ∷ es) ≤ sum_by fires_one (e ∷ es) + n) × AreFired n es
+
+-- it is a MOVE
+abbrev pub is_move : Act → Bool
+is_move act = act.code == 1
+
+-- an object lands
+abbrev pub lands_one : Event → ℕ
+lands_one (Landed o) = 1
+lands_one _ = 0
+
+-- how many MOVEs were done
+abbrev pub moves_done : Local → ℕ
+moves_done l = count_by is_move l.done
+
+-- from each of these entries on, which follow l, no more objects land than MOVEs are done, but n
+abbrev pub AreMoved : Rules → ℕ → Local → List Entry → Type 0
+AreMoved r n l [] = Unit {0}
+AreMoved r n l (e ∷ es) =
+    (sum_by (λ (x : Entry). lands_one x.event) (e ∷ es) + moves_done l ≤ moves_done (run_local r l (e ∷ es)) + n) × AreMoved r n (after r l e.event) es
 
 -- what a cause of an action pays for: a line that it is accepted at once, and all else that it goes through one message
 abbrev pub spends : Rules → Event → ℕ

@@ -27,7 +27,7 @@ use Rattle.hpx_tables.specs.Tables.{Tables}
 use Rattle.hpx_steps.specs.Frames.{IsOnItsWay, IsForHere}
 use Rattle.hpx_steps.specs.Items.{Item, Came, Mailed, OnDesk, Going, Queued, Leaving, Stray, Brought, Untold, Accepted, Running, Pending, Working, StandsHere, IsDue, Loose, weigh, Holds, Among}
 use Rattle.hpx_steps.specs.Paused.{IsCommit, HasSplit, HasCommits, Single, names_of}
-use Rattle.hpx_steps.specs.Rows.{Row, IsRowAt, one_if, weighed, goes, causes, spends, starts, AreFired, unpaid, hopping, joined, freeing, tells_at, tell_of}
+use Rattle.hpx_steps.specs.Rows.{Row, IsRowAt, one_if, weighed, goes, causes, spends, starts, AreFired, AreMoved, unpaid, hopping, joined, freeing, tells_at, tell_of}
 use Rattle.hpx_steps.specs.Turn.{Turn, view, commits, tokens_of, parcel_tokens}
 use Rattle.hpx_agas.specs.declared.record.Waiting.{Waiting}
 use Rattle.hpx_steps.specs.Calls.{act_in}
@@ -235,25 +235,23 @@ abbrev pub grants_of : Id → Parcel → ℕ
 grants_of o (Go act) = one_if (same_object o (target_of act))
 grants_of o _ = 0
 
--- grants of moves of o that are here
+-- grants of moves of o that are here, but those on their way to other localities
 abbrev pub grants_here : Id → Item → ℕ
 grants_here o (Came p) = grants_of o p
 grants_here o (Mailed p) = grants_of o p
 grants_here o (OnDesk p) = grants_of o p
-grants_here o (Going x) = grants_of o x.parcel
 grants_here o (Leaving p) = grants_of o p
 grants_here o (Stray p) = grants_of o p
 grants_here o _ = 0
 
--- those that went, or with which it left
-abbrev pub grants_gone : Rules → Id → Event → ℕ
-grants_gone r o (Out to bytes) = weighed (grants_of o) (r.parcel_of bytes)
-grants_gone r o (Left x to) = one_if (same_object o x)
-grants_gone r o _ = 0
+-- those with which it left
+abbrev pub grants_left : Id → Event → ℕ
+grants_left o (Left x to) = one_if (same_object o x)
+grants_left o _ = 0
 
--- how many moves of o were granted: those that are here, and those that went, or with which it left
-abbrev pub grants_made : Rules → Turn → List Entry → Id → ℕ
-grants_made r s entries o = all_count (grants_gone r o) entries + weigh (grants_here o) s
+-- how many moves of o from here were granted: those that are here, and those with which it left
+abbrev pub grants_made : Turn → List Entry → Id → ℕ
+grants_made s entries o = all_count (grants_left o) entries + weigh (grants_here o) s
 
 -- 1 for what leads away from k: a Free of o, or an action on it, if that is its home
 abbrev pub leads_on : ℕ → Id → Parcel → ℕ
@@ -266,14 +264,14 @@ abbrev pub leads_away : ℕ → Id → Item → ℕ
 leads_away k o (Going x) = leads_on k o x.parcel
 leads_away k o _ = 0
 
--- a move of an object was granted before: where its record says that it moves or is elsewhere, where an action waits for it, or stays
+-- a move of an object from here was granted before: where its record says that it moves or is elsewhere, where an action waits for it, or stays
 -- for good without it, and where an action on it goes on from its home, or another locality is told that it is to be freed. And an object that
 -- came to here stays for good only where no other locality can have sent it
 pub record HasBegun (r : Rules) (s : Turn) (entries : List Entry) : Type 0 where
-  pub away : (o : Id) → away_here s.tables o ≡ true → 1 ≤ grants_made r s entries o
-  pub queued : (w : Waiting Parcel) → Among w s.tables.queued → 1 ≤ grants_made r s entries (target_of (act_in w.item))
-  pub stray : (act : Act) → Among (Apply act) s.tables.stray → 1 ≤ grants_made r s entries (target_of act)
-  pub onward : (o : Id) → 1 ≤ all_count (gone r (leads_on s.tables.here o)) entries + weigh (leads_away s.tables.here o) s → 1 ≤ grants_made r s entries o
+  pub away : (o : Id) → away_here s.tables o ≡ true → 1 ≤ grants_made s entries o
+  pub queued : (w : Waiting Parcel) → Among w s.tables.queued → 1 ≤ grants_made s entries (target_of (act_in w.item))
+  pub stray : (act : Act) → Among (Apply act) s.tables.stray → 1 ≤ grants_made s entries (target_of act)
+  pub onward : (o : Id) → 1 ≤ all_count (gone r (leads_on s.tables.here o)) entries + weigh (leads_away s.tables.here o) s → 1 ≤ grants_made s entries o
   pub lands : IsClean r (at_boot r s.tables.here) entries → (act : Act) (state : State) → Among (Shipped act state) s.tables.stray
       → is_to s.tables.here (move_to act) ≡ false
 
@@ -326,7 +324,8 @@ moved_by a _ = 0
 
 -- ---- numbers
 
--- numbers that were drawn and frames stay below the entries; and the session has had the answers that were done
+-- numbers that were drawn and frames stay below the entries; the session has had the answers that were done; and for each object that lands a
+-- MOVE is done, or is to be done
 pub record AreNumbers (r : Rules) (s : Turn) (entries : List Entry) : Type 0 where
   pub born : s.tables.births ≤ length entries
   pub few : s.tables.serial ≤ length entries
@@ -336,6 +335,8 @@ pub record AreNumbers (r : Rules) (s : Turn) (entries : List Entry) : Type 0 whe
   pub few_answers : s.tables.answered ≤ length entries
   pub answered : IsClean r (at_boot r s.tables.here) (part s.tables.here entries)
       → s.tables.answered ≡ count_by is_answer (run_local r (at_boot r s.tables.here) (part s.tables.here entries)).done
+  pub moved : IsClean r (at_boot r s.tables.here) (part s.tables.here entries)
+      → AreMoved r (length s.tables.came) (at_boot r s.tables.here) (part s.tables.here entries)
 
 -- ---- all of it
 

@@ -183,6 +183,7 @@ pub record Moved : Type 0 where
 
 -- an action that ends is the MOVE with which its object came: the home of that is to be told
 pub record CameWith (s : Turn) (act : Act) (moved : Moved) : Type 0 where
+  pub moves : act.code ≡ 1
   pub i : ℕ
   pub there : slice_get s.tables.came i ≡ Some (arrival_of act)
   pub came : moved.came ≡ remove s.tables.came i

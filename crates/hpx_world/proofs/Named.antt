@@ -143,7 +143,7 @@ module _ (r : Rules) (es : List Entry) (joined : IsJoined r es) where
         (agree_from Met ((replayed r es).places k).waiting _ s.shows.acts.waiting (waiting k s.lt) [] _ refl)).1
 
     abbrev pub QueuedWell : Waiting Parcel → Type 0
-    QueuedWell w = IsWaitingFor k w.number w.item × (IsParcel w.item × AllByRecursion Met (acts_in (Some w.item))) × (1 ≤ grants_of_all r t (part k es) (target_of (act_in w.item)))
+    QueuedWell w = IsWaitingFor k w.number w.item × (IsParcel w.item × AllByRecursion Met (acts_in (Some w.item))) × (1 ≤ grants_of_all t (part k es) (target_of (act_in w.item)))
 
     pub queued_well : AllByRecursion QueuedWell t.queued
     queued_well = each t.queued (subst (λ j. AllByRecursion (λ (w : Waiting Parcel). IsWaitingFor j w.number w.item) t.queued) s.here s.tidy.queued) queued_met s.begun.queued
@@ -158,7 +158,7 @@ module _ (r : Rules) (es : List Entry) (joined : IsJoined r es) where
 
         each : (ws : List (Waiting Parcel)) → AllByRecursion (λ (w : Waiting Parcel). IsWaitingFor k w.number w.item) ws
             → AllByRecursion (λ (w : Waiting Parcel). IsParcel w.item × AllByRecursion Met (acts_in (Some w.item))) ws
-            → AllByRecursion (λ (w : Waiting Parcel). 1 ≤ grants_of_all r t (part k es) (target_of (act_in w.item))) ws → AllByRecursion QueuedWell ws
+            → AllByRecursion (λ (w : Waiting Parcel). 1 ≤ grants_of_all t (part k es) (target_of (act_in w.item))) ws → AllByRecursion QueuedWell ws
         each [] a b c = tt
         each (w ∷ ws) a b c = ((a.0, b.0, c.0), each ws a.1 b.1 c.1)
 

@@ -23,7 +23,7 @@ use Rattle.hpx_part.specs.Data.{Event, Entry, Local, Born, Left, Out}
 use Rattle.hpx_steps.specs.Calls.{act_in}
 use Rattle.hpx_steps.specs.Rest.{grants_of_all}
 use Rattle.hpx_steps.specs.Rows.{one_if, weighed}
-use Rattle.hpx_steps.specs.Sound.{IsWaitingFor, all_count, grants_gone, grants_of}
+use Rattle.hpx_steps.specs.Sound.{IsWaitingFor, all_count, grants_left, grants_of}
 use Rattle.hpx_steps.proofs.Sums.{messages_sum}
 use Rattle.hpx_tables.specs.Kept.{credit_in, ids_held}
 use Rattle.hpx_tables.specs.Tables.{Tables, messages}
@@ -123,28 +123,23 @@ root_none o small (Go act) h = elim (cases_Bool (same_object o (target_of act)))
 root_none o small _ h = refl
 
 module _ (r : Rules) (log : ℕ) (es : List Entry) (grammar : HasGrammar r) (legal : IsLegal r es) (k : ℕ) (t : Tables) (s : IsShown r log es k t) where
-  root_gone : (o : Id) → o.kind < 16 → (l : Local) (xs : List Entry) → IsLegalLocal r l xs → all_count (grants_gone r o) xs ≡ 0
+  root_gone : (o : Id) → o.kind < 16 → (l : Local) (xs : List Entry) → IsLegalLocal r l xs → all_count (grants_left o) xs ≡ 0
   root_gone o small l [] h = refl
   root_gone o small l (e ∷ xs) h = omega (
     arith,
     one e.event h.0.row,
     root_gone o small (after r l e.event) xs h.1,
-    sum_by-cons (λ (x : Entry). grants_gone r o x.event) e xs,
+    sum_by-cons (λ (x : Entry). grants_left o x.event) e xs,
   )
     where
-      spelt : (bytes : List ℕ) (p : Option Parcel) → r.parcel_of bytes ≡ p → weighed (grants_of o) p ≡ 0
-      spelt bytes None e = refl
-      spelt bytes (Some p) e = root_none o small p (grammar.grammar bytes p e)
-
-      one : (e : Event) → Row r l e → grants_gone r o e ≡ 0
-      one (Out to bytes) row = spelt bytes (r.parcel_of bytes) refl
+      one : (e : Event) → Row r l e → grants_left o e ≡ 0
       one (Left x to) row = elim (cases_Bool (same_object o x)) [
         | inl t ↦ absurd (omega (arith, small, ap (λ (y : Id). y.kind) (same_object-true o x t), row.0.0))
         | inr f ↦ ap one_if f
       ]
       one _ row = refl
 
-  pub root_grants : (o : Id) → o.kind < 16 → grants_of_all r t (part k es) o ≡ 0
+  pub root_grants : (o : Id) → o.kind < 16 → grants_of_all t (part k es) o ≡ 0
   root_grants o small = omega (
     arith,
     root_gone o small ((first r).places k) (part k es) (legal_part r (first r) es legal k),

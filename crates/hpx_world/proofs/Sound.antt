@@ -19,6 +19,7 @@ use Rattle.hpx_part.proofs.Keyed.{slice_get_is}
 use Rattle.hpx_tables.specs.Awaited.{is_answer}
 use Rattle.hpx_node.specs.Changes.{Writes}
 use Rattle.hpx_steps.specs.Rest.{Stands, StandsAtRest, rules_of}
+use Rattle.hpx_steps.specs.Rows.{AreMoved}
 use Rattle.hpx_steps.specs.Sound.{IsOrderly, IsPaid, IsSound as HoldsAt, HasBegun, IsPlaced}
 use Rattle.hpx_steps.specs.Turn.{Turn, at_rest, view}
 use Rattle.hpx_steps.proofs.AtRest.{rest_stands}
@@ -77,6 +78,7 @@ other_stands r s k events es es' grows away h =
         taken = h.numbers.taken ∙ ap (λ p. length (ins p)) (sym same);
         few_answers = omega (arith, h.numbers.few_answers, more);
         answered = subst (λ p. IsClean r (at_boot r here) p → s.tables.answered ≡ count_by is_answer (run_local r (at_boot r here) p).done) (sym same) h.numbers.answered;
+        moved = subst (λ p. IsClean r (at_boot r here) p → AreMoved r (length s.tables.came) (at_boot r here) p) (sym same) h.numbers.moved;
       };
     }
 

@@ -5,7 +5,7 @@ ghost use Rattle.hpx_value.specs.Profiles.{IsValid};
 ghost use Rattle.hpx_journal.specs.Weights.{HasRoom, total_weight};
 ghost use Rattle.hpx_journal.specs.Natives.{NothingMoves};
 ghost use Rattle.hpx_journal.specs.Whole.{IsCarried, part, replayed};
-ghost use Rattle.hpx_steps.specs.Rest.{IsPaid};
+ghost use Rattle.hpx_steps.specs.Rest.{IsPaid, StandsAtRest};
 ghost use Rattle.hpx_steps.specs.Limits.{IsWithin, AddsATurn};
 ghost use Rattle.hpx_ports.specs.Faults.{Rose};
 ghost use Rattle.hpx_world.specs.Places.{rules_in};
@@ -120,15 +120,16 @@ impl<A: Acts + Copy> World<A> {
     }
 
     /// What always holds: the contract is the law. The journal is within its limits, and at each locality nothing is idle: what
-    /// goes was caused, and actions go through messages no more often than they came or were sent. Where each frame
-    /// that was accepted had been sent, the journal keeps all that is promised, where nothing is to be done nothing is under way, and
-    /// the lines of an audit tell what the journal leads to.
+    /// goes was caused, and actions go through messages no more often than they came or were sent; all that `idle_law` of hpx_node
+    /// says holds of each (`stands`). Where each frame that was accepted had been sent, the journal keeps all that is promised,
+    /// where nothing is to be done nothing is under way, and the lines of an audit tell what the journal leads to.
     pub fn law(&self)
         ensures promises { let r = rules_in A.act_of self.now in IsCarried r [] self.now.journal.entries → KeepsPromises r self.now.journal.entries }
         ensures rest { let r = rules_in A.act_of self.now in
             IsCarried r [] self.now.journal.entries → IsQuiet self.now.nodes self.now.hand → IsAtRest r (replayed r self.now.journal.entries) }
         ensures within { IsWithin self.now.journal.entries }
         ensures paid { (k : ℕ) (t : _) → slice_get self.now.nodes k ≡ Some t → IsPaid (rules_in A.act_of self.now) t (part k self.now.journal.entries) }
+        ensures stands { (k : ℕ) (t : _) → slice_get self.now.nodes k ≡ Some t → StandsAtRest (rules_in A.act_of self.now) t self.now.journal.entries }
         ensures records { HaveRecords self.now.nodes }
         ensures ordered { AreOrdered (audit_lines self.now.nodes) }
         ensures audit { let r = rules_in A.act_of self.now in

@@ -1,4 +1,5 @@
 use Rattle.hpx_node.proofs.IdleSince.{paid_since, hops_once, hops_since}
+use Rattle.hpx_node.proofs.IdleMoves.{landeds_paid, landeds_since, left_before, onward_granted}
 use Rattle.hpx_node.proofs.RowLaws.{refuses_for_cause, frees_the_dead}
 use Rattle.hpx_node.proofs.law.idle_law.Goals as goal
 
@@ -19,3 +20,18 @@ returns-clause-frees c = λ r t entries stands passive. frees_the_dead r t entri
 
 pub returns-clause-once_since : goal.returns-clause-once_since
 returns-clause-once_since c = λ r t t' entries later stands passive then here. hops_since r t t' entries later stands passive then here
+
+pub returns-clause-landeds : goal.returns-clause-landeds
+returns-clause-landeds c = λ r t entries stands clean. landeds_paid r t entries stands clean
+
+pub returns-clause-landeds_since : goal.returns-clause-landeds_since
+returns-clause-landeds_since c = λ r t t' entries later stands passive then here clean. landeds_since r t t' entries later stands passive then here clean
+
+pub returns-clause-ways : goal.returns-clause-ways
+returns-clause-ways c = λ r t entries stands. stands.orderly.sent
+
+pub returns-clause-onward : goal.returns-clause-onward
+returns-clause-onward c = λ r t entries o stands some. onward_granted r t entries o stands some
+
+pub returns-clause-left : goal.returns-clause-left
+returns-clause-left c = λ r t entries o stands passive some. left_before r t entries o stands passive some

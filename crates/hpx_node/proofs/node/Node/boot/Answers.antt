@@ -29,6 +29,7 @@ returns-clause-stands g c =
       paid = search rules;
       few_answers = search rules;
       answered = search rules;
+      moved = λ clean. tt;
     }) (search rules) (search rules) (boot_begun _ _ c.new-7.ensures.records c.new-7.ensures.waiting c.new-6.ensures.stray c.new-5.ensures.items)
     (boot_placed _ _ c.new-7.ensures.records c.new-4.ensures.items c.new-6.ensures.came)
     (boot_flowing _ _ c.new-7.ensures.records c.new-4.ensures.items c.new-5.ensures.items c.new-7.ensures.waiting c.new-6.ensures.leaving c.new-6.ensures.stray c.new-6.ensures.came))

@@ -42,6 +42,10 @@ returns-clause-paid g c = rw (← c.self.view_is) (λ k t at.
     subst (λ j. IsPaid (rules_of g.A.Acts.act_of (length nodes) profile) t (part j entries)) (c.self.invariant.1.stand k t at).here
     (told_all g.A.Acts.act_of profile nodes entries c.self.invariant.1 k t at).stands.paid)
 
+pub returns-clause-stands : goal.returns-clause-stands
+returns-clause-stands g c = rw (← c.self.view_is) (λ k t at.
+    told_all g.A.Acts.act_of c.self.inside.locals.profile (tables_of c.self.inside.locals.nodes.items) c.self.inside.locals.journal.entries c.self.invariant.1 k t at)
+
 pub returns-clause-at_home : goal.returns-clause-at_home
 returns-clause-at_home g c = rw (← c.self.view_is) (λ still carried.
     let sound = c.self.invariant.1 in
