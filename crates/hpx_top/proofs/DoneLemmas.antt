@@ -119,9 +119,9 @@ none_done task n p r x e = record {
   unread = λ line is. (refl, refl, refl, refl);
   no_read = λ line is. subst (λ q. (status_after q ≢ 2) × (status_after q ≢ 9)) (sym e) (λ s. absurd (omega arith), λ s. absurd (omega arith));
   reads = λ input h. read_from_none input x.left x.taken h;
-  served = λ console is input h. served_none (ByJournal (rules_of act_of n p) []) r input x e h;
+  served = λ console is input h. served_none (ByJournal (rules_of act_of n p) []) r input x e refl h;
   served_plainly = λ granted console is input h own. (
-    served_none (ByOneSpace n) r input x e h,
+    served_none (ByOneSpace n) r input x e tt h,
     record {
       text = [];
       is = sym (followed_nothing x.text);

@@ -16,7 +16,7 @@ use Rattle.hpx_top.specs.Texts.{commands, fed, held_behind}
 use Rattle.hpx_top.specs.Reader.{Reading, HasRead, IsOut, input_left, lines_left, behind_line, behind}
 use Rattle.hpx_top.specs.declared.session.SessionFault.{SessionFault}
 use Rattle.hpx_top.specs.declared.session.SessionFault.TheVariants.{Read, Write, Fabric, JournalFull, OutOfMemory, BadFrame, Strange, InputFull}
-use Rattle.hpx_top.specs.Session.{lines_fed, Telling, ByJournal, TellsAll, IsToldUp, IsTheirs, IsOfAll, IsCut, IsCutAt, IsCutIn, IsCutAtOpening, IsCutBy, IsEndCutBy, IsOver, IsUnderWay, IsStopped}
+use Rattle.hpx_top.specs.Session.{lines_fed, Telling, ByJournal, TellsAll, TellsNone, IsToldUp, IsTheirs, IsOfAll, IsCut, IsCutAt, IsCutIn, IsCutAtOpening, IsCutBy, IsEndCutBy, IsOver, IsUnderWay, IsStopped}
 use Rattle.hpx_top.specs.Ends.{IsWhole, IsBrokenOff, IsBrokenIn, IsBrokenAtEnd, IsBrokenAtOpening, IsBegun, IsFullBehind, IsShort, IsEndedBy, IsReadFrom, IsReadUp, IsReadOn}
 use Rattle.hpx_top.proofs.LineLemmas.{told_rest, before_quit_append, followed_nothing}
 use Rattle.hpx_top.proofs.PartLemmas.{told_more}
@@ -73,6 +73,7 @@ broken_at {console} {telling} most input entries old new c =
       lines = c.journal;
       text = c.text;
       told = c.told;
+      ended = c.ended;
       is = c.written;
     }
 
@@ -113,17 +114,18 @@ begun_at {console} {telling} input entries old new u =
     theirs : (rest : List (List ℕ)) → u.left ≡ Some rest
         → (IsTheirs console telling entries u.lines u.text
         ⊎ (IsOfAll console telling entries u.lines u.text × (u.next ≡ []) × IfSome u.left (λ others. before_quit others ≡ []))
-        ⊎ ((u.lines ≡ []) × (u.next ≡ []) × IsFront u.text (commands console)))
+        ⊎ ((u.lines ≡ []) × (u.next ≡ []) × TellsNone telling × IsFront u.text (commands console)))
         → (IsTheirs console telling entries u.lines u.text
         ⊎ (IsOfAll console telling entries u.lines u.text × (u.next ≡ []) × (before_quit rest ≡ []))
-        ⊎ ((u.lines ≡ []) × (u.next ≡ []) × IsFront u.text (commands console)))
+        ⊎ ((u.lines ≡ []) × (u.next ≡ []) × TellsNone telling × IsFront u.text (commands console)))
     theirs rest is (inl t) = inl t
     theirs rest is (inr (inl a)) = inr (inl (a.0, a.1, subst (λ l. IfSome l (λ others. before_quit others ≡ [])) is a.2))
     theirs rest is (inr (inr n)) = inr (inr n)
 
 -- nothing was done yet
-pub begun_nothing : {console : UserConsole} (telling : Telling) (input : List ℕ) (entries : List Entry) (old new : Option (List ℕ)) → entries ≡ [] → new ≡ old → IsBegun console telling input entries old new
-begun_nothing {console} telling input entries old new empty same = record {
+pub begun_nothing : {console : UserConsole} (telling : Telling) (input : List ℕ) (entries : List Entry) (old new : Option (List ℕ)) → entries ≡ [] → TellsNone telling → new ≡ old
+    → IsBegun console telling input entries old new
+begun_nothing {console} telling input entries old new empty none same = record {
   handled = [];
   next = [];
   later = lines_of input;
@@ -132,7 +134,7 @@ begun_nothing {console} telling input entries old new empty same = record {
   lines = inr (ap lines_fed empty, refl);
   text = [];
   is = same ∙ sym (followed_nothing old);
-  theirs = inr (inr (refl, refl, record { later = commands console; is = refl }));
+  theirs = inr (inr (refl, refl, none, record { later = commands console; is = refl }));
   almost = inr (refl, refl);
 }
 
@@ -179,16 +181,16 @@ read_on_at n input reading left s h all =
 abbrev failed : (T : Type 0) → SessionFault → Result T SessionFault
 failed T f = Err f
 
-ended_at : (console : UserConsole) (r : Rules) (cuts : List ℕ) (f : SessionFault) (input : List ℕ) (entries : List Entry) (old new : Option (List ℕ))
-    → IsCutBy console f (ByJournal r cuts) (Some (lines_in (slice_split is_newline input))) old entries new → IsEndedBy console f (ByJournal r cuts) input entries old new
-ended_at console r cuts Write input entries old new c = begun_at input entries old new c
-ended_at console r cuts Read input entries old new c = broken_at 0 input entries old new c
-ended_at console r cuts InputFull input entries old new c = broken_at 0 input entries old new c
-ended_at console r cuts Fabric input entries old new c = inl (broken_in input entries old new c)
-ended_at console r cuts JournalFull input entries old new c = inl (broken_in input entries old new c)
-ended_at console r cuts BadFrame input entries old new c = inl (broken_in input entries old new c)
-ended_at console r cuts Strange input entries old new c = inl (broken_in input entries old new c)
-ended_at console r cuts OutOfMemory input entries old new c = inl (broken_at 1 input entries old new c)
+ended_at : (console : UserConsole) (r : Rules) (cuts : List ℕ) (f : SessionFault) (input : List ℕ) (rest : Option (List ℕ)) (entries : List Entry) (old new : Option (List ℕ))
+    → IsCutBy console f (ByJournal r cuts) (Some (lines_in (slice_split is_newline input))) old entries new → IsEndedBy console f (ByJournal r cuts) input rest entries old new
+ended_at console r cuts Write input rest entries old new c = begun_at input entries old new c
+ended_at console r cuts Read input rest entries old new c = broken_at 0 input entries old new c
+ended_at console r cuts InputFull input rest entries old new c = broken_at 0 input entries old new c
+ended_at console r cuts Fabric input rest entries old new c = inl (broken_in input entries old new c)
+ended_at console r cuts JournalFull input rest entries old new c = inl (broken_in input entries old new c)
+ended_at console r cuts BadFrame input rest entries old new c = inl (broken_in input entries old new c)
+ended_at console r cuts Strange input rest entries old new c = inl (broken_in input entries old new c)
+ended_at console r cuts OutOfMemory input rest entries old new c = inl (broken_at 1 input entries old new c)
 
 begun_cut : {console : UserConsole} {r : Rules} {cuts : List ℕ} (most : ℕ) (input : List ℕ) (entries : List Entry) (old new : Option (List ℕ)) → most ≤ 1
     → IsCut console (ByJournal r cuts) most (Some (lines_in (slice_split is_newline input))) old entries new → IsBegun console (ByJournal r cuts) input entries old new
@@ -211,38 +213,40 @@ begun_by {console} {r} {cuts} Strange input entries old new c = begun_in input e
 begun_by {console} {r} {cuts} OutOfMemory input entries old new c = begun_cut 1 input entries old new (omega arith) c
 
 -- while the accumulator was made
-opening_broken : {console : UserConsole} (entries : List Entry) (old new : Option (List ℕ)) → IsCutAtOpening console old entries new → IsBrokenAtOpening console entries old new
-opening_broken {console} entries old new c = record { only = c.only; lines = c.journal; text = c.written }
+opening_broken : {console : UserConsole} {telling : Telling} (input : List ℕ) (rest : Option (List ℕ)) (entries : List Entry) (old new : Option (List ℕ)) → rest ≡ Some input
+    → IsCutAtOpening console telling old entries new → IsBrokenAtOpening console telling input rest entries old new
+opening_broken {console} {telling} input rest entries old new unread c = record { only = c.only; unread = unread; none = c.none; lines = c.journal; text = c.written }
 
-pub begun_opening : {console : UserConsole} (telling : Telling) (input : List ℕ) (entries : List Entry) (old new : Option (List ℕ)) → IsCutAtOpening console old entries new
+pub begun_opening : {console : UserConsole} (telling : Telling) (input : List ℕ) (entries : List Entry) (old new : Option (List ℕ)) → IsCutAtOpening console telling old entries new
     → IsBegun console telling input entries old new
 begun_opening {console} telling input entries old new c =
     begun_at input entries old new (under_opening telling (Some (lines_in (slice_split is_newline input))) old new entries c)
 
-pub ended_opening : {console : UserConsole} {T : Type 0} (telling : Telling) (f : SessionFault) (input : List ℕ) (entries : List Entry) (old new : Option (List ℕ))
-    → (failed T f ≢ Err Read) × (failed T f ≢ Err Write) × (failed T f ≢ Err InputFull) → IsCutAtOpening console old entries new → IsEndedBy console f telling input entries old new
-ended_opening {console} telling Read input entries old new other c = absurd (other.0 refl)
-ended_opening {console} telling Write input entries old new other c = absurd (other.1 refl)
-ended_opening {console} telling InputFull input entries old new other c = absurd (other.2 refl)
-ended_opening {console} telling Fabric input entries old new other c = inr (inr (opening_broken entries old new c))
-ended_opening {console} telling JournalFull input entries old new other c = inr (inr (opening_broken entries old new c))
-ended_opening {console} telling BadFrame input entries old new other c = inr (inr (opening_broken entries old new c))
-ended_opening {console} telling Strange input entries old new other c = inr (inr (opening_broken entries old new c))
-ended_opening {console} telling OutOfMemory input entries old new other c = inr (inr (opening_broken entries old new c))
+pub ended_opening : {console : UserConsole} {T : Type 0} (telling : Telling) (f : SessionFault) (input : List ℕ) (rest : Option (List ℕ)) (entries : List Entry) (old new : Option (List ℕ))
+    → (failed T f ≢ Err Read) × (failed T f ≢ Err Write) × (failed T f ≢ Err InputFull) → rest ≡ Some input → IsCutAtOpening console telling old entries new
+    → IsEndedBy console f telling input rest entries old new
+ended_opening {console} telling Read input rest entries old new other unread c = absurd (other.0 refl)
+ended_opening {console} telling Write input rest entries old new other unread c = absurd (other.1 refl)
+ended_opening {console} telling InputFull input rest entries old new other unread c = absurd (other.2 refl)
+ended_opening {console} telling Fabric input rest entries old new other unread c = inr (inr (opening_broken input rest entries old new unread c))
+ended_opening {console} telling JournalFull input rest entries old new other unread c = inr (inr (opening_broken input rest entries old new unread c))
+ended_opening {console} telling BadFrame input rest entries old new other unread c = inr (inr (opening_broken input rest entries old new unread c))
+ended_opening {console} telling Strange input rest entries old new other unread c = inr (inr (opening_broken input rest entries old new unread c))
+ended_opening {console} telling OutOfMemory input rest entries old new other unread c = inr (inr (opening_broken input rest entries old new unread c))
 
 -- what was held back was not let go
-ended_end : {console : UserConsole} {r : Rules} {ended held : Bool} {cuts : List ℕ} {before : Option (List ℕ)} {now : Option (List ℕ)} {old : List Entry} (f : SessionFault) (input : List ℕ)
+ended_end : {console : UserConsole} {r : Rules} {ended held : Bool} {cuts : List ℕ} {before : Option (List ℕ)} {now : Option (List ℕ)} {old : List Entry} (f : SessionFault) (input : List ℕ) (rest : Option (List ℕ))
     (new : List Entry) (later : Option (List ℕ)) (o : IsOver console r ended (Some (lines_in (slice_split is_newline input))) before held cuts old now) → IsUnfed old new
-    → held ≡ true → (held ≡ false → new ≡ old) → IsEndCutBy f old new now later → IsEndedBy console f (ByJournal r cuts) input new before later
-ended_end {console} {r} {ended} {held} {cuts} {before} {now} {old} Write input new later o unfed on still c =
+    → held ≡ true → (held ≡ false → new ≡ old) → IsEndCutBy f old new now later → IsEndedBy console f (ByJournal r cuts) input rest new before later
+ended_end {console} {r} {ended} {held} {cuts} {before} {now} {old} Write input rest new later o unfed on still c =
     begun_at input new before later (under_end (Some (lines_in (slice_split is_newline input))) before now later old new o unfed still c)
-ended_end {console} {r} {ended} {held} {cuts} {before} {now} {old} Read input new later o unfed on still c = absurd c
-ended_end {console} {r} {ended} {held} {cuts} {before} {now} {old} InputFull input new later o unfed on still c = absurd c
-ended_end {console} {r} {ended} {held} {cuts} {before} {now} {old} Fabric input new later o unfed on still c = inr (inl (broken_end input new later o unfed on c))
-ended_end {console} {r} {ended} {held} {cuts} {before} {now} {old} JournalFull input new later o unfed on still c = inr (inl (broken_end input new later o unfed on c))
-ended_end {console} {r} {ended} {held} {cuts} {before} {now} {old} BadFrame input new later o unfed on still c = inr (inl (broken_end input new later o unfed on c))
-ended_end {console} {r} {ended} {held} {cuts} {before} {now} {old} Strange input new later o unfed on still c = inr (inl (broken_end input new later o unfed on c))
-ended_end {console} {r} {ended} {held} {cuts} {before} {now} {old} OutOfMemory input new later o unfed on still c = inr (inl (broken_end input new later o unfed on c))
+ended_end {console} {r} {ended} {held} {cuts} {before} {now} {old} Read input rest new later o unfed on still c = absurd c
+ended_end {console} {r} {ended} {held} {cuts} {before} {now} {old} InputFull input rest new later o unfed on still c = absurd c
+ended_end {console} {r} {ended} {held} {cuts} {before} {now} {old} Fabric input rest new later o unfed on still c = inr (inl (broken_end input new later o unfed on c))
+ended_end {console} {r} {ended} {held} {cuts} {before} {now} {old} JournalFull input rest new later o unfed on still c = inr (inl (broken_end input new later o unfed on c))
+ended_end {console} {r} {ended} {held} {cuts} {before} {now} {old} BadFrame input rest new later o unfed on still c = inr (inl (broken_end input new later o unfed on c))
+ended_end {console} {r} {ended} {held} {cuts} {before} {now} {old} Strange input rest new later o unfed on still c = inr (inl (broken_end input new later o unfed on c))
+ended_end {console} {r} {ended} {held} {cuts} {before} {now} {old} OutOfMemory input rest new later o unfed on still c = inr (inl (broken_end input new later o unfed on c))
 
 begun_end : {console : UserConsole} {r : Rules} {ended held : Bool} {cuts : List ℕ} {before : Option (List ℕ)} {now : Option (List ℕ)} {old : List Entry} (f : SessionFault) (input : List ℕ)
     (new : List Entry) (later : Option (List ℕ)) (o : IsOver console r ended (Some (lines_in (slice_split is_newline input))) before held cuts old now) → IsUnfed old new
@@ -287,11 +291,11 @@ begun_whole {console} {r} {ended} {held} {cuts} {before} {now} {old} input left 
       held = is;
     })
 
-pub ended_end_from : {console : UserConsole} {r : Rules} {ended held : Bool} {cuts : List ℕ} {before now : Option (List ℕ)} {old : List Entry} (f : SessionFault) (input : List ℕ) (left : Option (List ℕ))
+pub ended_end_from : {console : UserConsole} {r : Rules} {ended held : Bool} {cuts : List ℕ} {before now : Option (List ℕ)} {old : List Entry} (f : SessionFault) (input : List ℕ) (left rest : Option (List ℕ))
     (new : List Entry) (later : Option (List ℕ)) → left ≡ Some input → IsOver console r ended (all_lines left) before held cuts old now → IsUnfed old new → held ≡ true
-    → (held ≡ false → new ≡ old) → IsEndCutBy f old new now later → IsEndedBy console f (ByJournal r cuts) input new before later
-ended_end_from {console} {r} {ended} {held} {cuts} {before} {now} {old} f input left new later h o unfed on still c =
-    ended_end f input new later (subst (λ all. IsOver console r ended all before held cuts old now) (told input left h) o) unfed on still c
+    → (held ≡ false → new ≡ old) → IsEndCutBy f old new now later → IsEndedBy console f (ByJournal r cuts) input rest new before later
+ended_end_from {console} {r} {ended} {held} {cuts} {before} {now} {old} f input left rest new later h o unfed on still c =
+    ended_end f input rest new later (subst (λ all. IsOver console r ended all before held cuts old now) (told input left h) o) unfed on still c
 
 pub begun_end_from : {console : UserConsole} {r : Rules} {ended held : Bool} {cuts : List ℕ} {before now : Option (List ℕ)} {old : List Entry} (f : SessionFault) (input : List ℕ) (left : Option (List ℕ))
     (new : List Entry) (later : Option (List ℕ)) → left ≡ Some input → IsOver console r ended (all_lines left) before held cuts old now → IsUnfed old new
@@ -319,11 +323,11 @@ held_so true f result is free = refl
 held_so false f result is free = absurd (let both : ◌≡◌ {A = Result ⊤ SessionFault} (Ok tt) (Err f) = sym (free refl) ∙ is in cc)
 
 pub ended_result : {console : UserConsole} {r : Rules} {ended held : Bool} {cuts : List ℕ} {before now : Option (List ℕ)} {old : List Entry} (result : Result ⊤ SessionFault) (input : List ℕ)
-    (left : Option (List ℕ)) (new : List Entry) (later : Option (List ℕ)) → left ≡ Some input → IsOver console r ended (all_lines left) before held cuts old now → IsUnfed old new
-    → (held ≡ false → (result ≡ Ok tt) × (new ≡ old)) → IfErr result (λ f. IsEndCutBy f old new now later) → IfErr result (λ f. IsEndedBy console f (ByJournal r cuts) input new before later)
-ended_result (Ok t) input left new later h o unfed still err = tt
-ended_result {console} {r} {ended} {held} (Err f) input left new later h o unfed still err =
-    ended_end_from f input left new later h o unfed (held_so held f (Err f) refl (λ free. (still free).0)) (λ free. (still free).1) err
+    (left rest : Option (List ℕ)) (new : List Entry) (later : Option (List ℕ)) → left ≡ Some input → IsOver console r ended (all_lines left) before held cuts old now → IsUnfed old new
+    → (held ≡ false → (result ≡ Ok tt) × (new ≡ old)) → IfErr result (λ f. IsEndCutBy f old new now later) → IfErr result (λ f. IsEndedBy console f (ByJournal r cuts) input rest new before later)
+ended_result (Ok t) input left rest new later h o unfed still err = tt
+ended_result {console} {r} {ended} {held} (Err f) input left rest new later h o unfed still err =
+    ended_end_from f input left rest new later h o unfed (held_so held f (Err f) refl (λ free. (still free).0)) (λ free. (still free).1) err
 
 -- memory was wanting
 written_before : (result : Result ⊤ SessionFault) (old new : List Entry) (now later : Option (List ℕ)) → result ≡ Err OutOfMemory → IfErr result (λ f. IsEndCutBy f old new now later) → later ≡ now
@@ -357,10 +361,10 @@ read_from input left rest reading before after h read count =
 pub read_from_none : (input : List ℕ) (left : Option (List ℕ)) (taken : ℕ) → left ≡ Some input → IsReadFrom input left taken taken
 read_from_none input left taken h = record { front = []; rest = input; input_is = refl; left_is = h; count = omega arith }
 
-pub ended_from : (console : UserConsole) (r : Rules) (cuts : List ℕ) (f : SessionFault) (input : List ℕ) (left : Option (List ℕ)) (entries : List Entry) (old new : Option (List ℕ))
-    → left ≡ Some input → IsCutBy console f (ByJournal r cuts) (all_lines left) old entries new → IsEndedBy console f (ByJournal r cuts) input entries old new
-ended_from console r cuts f input left entries old new h c =
-    ended_at console r cuts f input entries old new (subst (λ all. IsCutBy console f (ByJournal r cuts) all old entries new) (told input left h) c)
+pub ended_from : (console : UserConsole) (r : Rules) (cuts : List ℕ) (f : SessionFault) (input : List ℕ) (left rest : Option (List ℕ)) (entries : List Entry) (old new : Option (List ℕ))
+    → left ≡ Some input → IsCutBy console f (ByJournal r cuts) (all_lines left) old entries new → IsEndedBy console f (ByJournal r cuts) input rest entries old new
+ended_from console r cuts f input left rest entries old new h c =
+    ended_at console r cuts f input rest entries old new (subst (λ all. IsCutBy console f (ByJournal r cuts) all old entries new) (told input left h) c)
 
 pub begun_from : {console : UserConsole} {r : Rules} {cuts : List ℕ} (f : SessionFault) (input : List ℕ) (left : Option (List ℕ)) (entries : List Entry) (old new : Option (List ℕ))
     → left ≡ Some input → IsCutBy console f (ByJournal r cuts) (all_lines left) old entries new → IsBegun console (ByJournal r cuts) input entries old new
@@ -438,6 +442,6 @@ short_from {console} {telling} count input left before rest reading entries old 
     (subst (λ all. IsCutAt console count telling 1 all old entries new) (told input left h) c) (is ∙ ap (option_map (behind count)) h)
     (subst (λ all. HasRead all reading rest) h read) never
 
-pub short_opening : {console : UserConsole} (telling : Telling) (input : List ℕ) (rest : Option (List ℕ)) (entries : List Entry) (old new : Option (List ℕ)) → rest ≡ Some input → IsCutAtOpening console old entries new
-    → IsShort console telling input rest entries old new
-short_opening {console} telling input rest entries old new unread c = inr (inr (opening_broken entries old new c, unread))
+pub short_opening : {console : UserConsole} (telling : Telling) (input : List ℕ) (rest : Option (List ℕ)) (entries : List Entry) (old new : Option (List ℕ)) → rest ≡ Some input
+    → IsCutAtOpening console telling old entries new → IsShort console telling input rest entries old new
+short_opening {console} telling input rest entries old new unread c = inr (inr (opening_broken input rest entries old new unread c))

@@ -37,7 +37,7 @@ use Rattle.hpx_top.specs.Texts.{TooLong, Typed, commands, fed_lines, how, is_fed
 use Rattle.hpx_top.specs.declared.session.SessionFault.{SessionFault}
 use Rattle.hpx_top.specs.declared.session.SessionFault.TheVariants.{Read, Write, Fabric, JournalFull, OutOfMemory, BadFrame, Strange, InputFull}
 use Rattle.hpx_top.specs.Reader.{Reading, lines_left}
-use Rattle.hpx_top.specs.Session.{rules, IsAmple, NoneRefused, AllGranted, AllDone, ByJournal, Telling, lines_fed, IsFed, FeedsAtMost, HasBegun, Feeds, IsServing, IsLeft, IsCutAtOpening, IsUnderWay, IsCutBy, IsLineEndedBy}
+use Rattle.hpx_top.specs.Session.{rules, IsAmple, NoneRefused, AllGranted, AllDone, ByJournal, Telling, lines_fed, IsFed, FeedsAtMost, HasBegun, Feeds, IsServing, IsLeft, IsCutAtOpening, IsUnderWay, IsCutBy, IsLineEndedBy, TellsNone}
 use Rattle.hpx_top.proofs.LineLemmas.{block_line, none_fed}
 use Rattle.hpx_top.proofs.SessionLemmas.{IsNext, cut_in, cut_line, fed_once, under_line}
 
@@ -264,8 +264,8 @@ pub cut_write : {console : UserConsole} (f : SessionFault) (telling : Telling) (
 cut_write {console} f telling all before now entries is u = subst (λ f. IsCutBy console f telling all before entries now) (sym is) u
 
 -- the accumulator was not made
-pub cut_opening : {console : UserConsole} (before now : Option (List ℕ)) (old new : List Entry) → console ≡ Accumulator → old ≡ [] → FeedsAtMost opening old new → now ≡ followed before (commands console)
-    → IsCutAtOpening console before new now
-cut_opening {console} before now old new only empty (inl same) held = record { only = only; journal = inl (ap lines_fed (same ∙ empty)); written = held }
-cut_opening {console} before now old new only empty (inr f) held =
-    record { only = only; journal = inr (fed_once opening old new f ∙ ap (λ es. lines_fed es ++ opening ∷ []) empty); written = held }
+pub cut_opening : {console : UserConsole} (telling : Telling) (before now : Option (List ℕ)) (old new : List Entry) → console ≡ Accumulator → TellsNone telling → old ≡ []
+    → FeedsAtMost opening old new → now ≡ followed before (commands console) → IsCutAtOpening console telling before new now
+cut_opening {console} telling before now old new only none empty (inl same) held = record { only = only; none = none; journal = inl (ap lines_fed (same ∙ empty)); written = held }
+cut_opening {console} telling before now old new only none empty (inr f) held =
+    record { only = only; none = none; journal = inr (fed_once opening old new f ∙ ap (λ es. lines_fed es ++ opening ∷ []) empty); written = held }

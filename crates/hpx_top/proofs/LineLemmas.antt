@@ -8,13 +8,11 @@ use Rattle.hpx_journal.specs.declared.entry.Event.{Event}
 use Rattle.hpx_journal.specs.declared.entry.Event.TheVariants.{Line, Fire, Split, Born, Done, Sent, Print, Merge, Up, Asked, Given, Count, Freed, Left, Landed, Looked, Mail, Out, In}
 use Rattle.hpx_journal.specs.Sessions.{FeedsNothing, BeginsWith}
 use Rattle.hpx_ports.specs.Told.{preceded, followed}
-use Rattle.app_console.specs.declared.table.Console.{Console}
 use Rattle.app_console.specs.Console.{words_of, prompt}
 use Rattle.app_console.specs.Lines.{IsFront, is_long, is_quit, are_quit, before_quit}
 use Rattle.app_console.specs.Plain.{Plain}
-use Rattle.app_console.specs.Text.{after_line, text_of_line, lines_text as lines_text_in}
 use Rattle.hpx_top.specs.declared.consoles.UserConsole.{UserConsole}
-use Rattle.hpx_top.specs.Texts.{commands, lines_text, start_of, table_of}
+use Rattle.hpx_top.specs.Texts.{commands, how, left_by, lines_text, said, said_for, start_of, table_of}
 use Rattle.hpx_top.specs.Session.{lines_by, lines_fed}
 
 -- ---- what is told
@@ -42,24 +40,24 @@ told_rest all lines (Some rest) h = (rest, refl, (let some : Some all ≡ Some (
 
 -- ---- the text
 
--- one line, and what is left after it
-abbrev line_text : Console → ℕ → Plain → List ℕ → List ℕ
-line_text c n v line = text_of_line c n v line
+-- what is left after a line, and after lines
+abbrev after : UserConsole → ℕ → Plain → List ℕ → Plain
+after console n v line = left_by (how console line) (table_of console) n v line
 
-abbrev after : Console → ℕ → Plain → List ℕ → Plain
-after c n v line = after_line c n v line
+abbrev after_all : UserConsole → ℕ → Plain → List (List ℕ) → Plain
+after_all console n v [] = v
+after_all console n v (x ∷ xs) = after_all console n (after console n v x) xs
 
--- what is left after lines
-abbrev after_all : Console → ℕ → Plain → List (List ℕ) → Plain
-after_all c n v [] = v
-after_all c n v (x ∷ xs) = after_all c n (after c n v x) xs
+-- what is said for one
+abbrev line_text : UserConsole → ℕ → Plain → List ℕ → List ℕ
+line_text console n v line = said_for (how console line) (table_of console) n v line
 
-said_append : (c : Console) (n : ℕ) (v : Plain) (xs ys : List (List ℕ))
-    → lines_text_in c n v (xs ++ ys) ≡ lines_text_in c n v xs ++ lines_text_in c n (after_all c n v xs) ys
-said_append c n v [] ys = refl
-said_append c n v (x ∷ xs) ys =
-    ap (λ t. prompt ++ (line_text c n v x ++ t)) (said_append c n (after c n v x) xs ys)
-    ∙ regroup prompt (line_text c n v x) (lines_text_in c n (after c n v x) xs) (lines_text_in c n (after_all c n (after c n v x) xs) ys)
+said_append : (console : UserConsole) (n : ℕ) (v : Plain) (xs ys : List (List ℕ))
+    → said console n v (xs ++ ys) ≡ said console n v xs ++ said console n (after_all console n v xs) ys
+said_append console n v [] ys = refl
+said_append console n v (x ∷ xs) ys =
+    ap (λ t. prompt ++ (line_text console n v x ++ t)) (said_append console n (after console n v x) xs ys)
+    ∙ regroup prompt (line_text console n v x) (said console n (after console n v x) xs) (said console n (after_all console n (after console n v x) xs) ys)
   where
     regroup : (p a b c : List ℕ) → p ++ (a ++ (b ++ c)) ≡ (p ++ (a ++ b)) ++ c
     regroup p a b c = simp append_assoc
@@ -80,12 +78,11 @@ text_front console n xs [] =
     subst (λ zs. IsFront (commands console ++ (lines_text console n xs ++ prompt)) (commands console ++ (lines_text console n zs ++ prompt))) (sym (append-nil xs))
     (front_all (commands console ++ (lines_text console n xs ++ prompt)))
 text_front console n xs (y ∷ ys) =
-    let c = table_of console in
-    let v = after_all c n (start_of console n) xs in
+    let v = after_all console n (start_of console n) xs in
     record {
-      later = line_text c n v y ++ (lines_text_in c n (after c n v y) ys ++ prompt);
-      is = front_within (commands console) (lines_text console n xs) prompt (line_text c n v y) (lines_text_in c n (after c n v y) ys)
-          ∙ ap (λ t. commands console ++ (t ++ prompt)) (sym (said_append c n (start_of console n) xs (y ∷ ys)));
+      later = line_text console n v y ++ (said console n (after console n v y) ys ++ prompt);
+      is = front_within (commands console) (lines_text console n xs) prompt (line_text console n v y) (said console n (after console n v y) ys)
+          ∙ ap (λ t. commands console ++ (t ++ prompt)) (sym (said_append console n (start_of console n) xs (y ∷ ys)));
     }
 
 -- ---- lines that end reading

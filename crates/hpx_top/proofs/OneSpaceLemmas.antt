@@ -13,8 +13,8 @@ use Rattle.app_console.specs.Lines.{IsFront, lines_of}
 use Rattle.hpx_top.specs.Acts.{act_of}
 use Rattle.hpx_top.specs.declared.consoles.UserConsole.{UserConsole}
 use Rattle.hpx_top.specs.Texts.{commands, lines_text}
-use Rattle.hpx_top.specs.Session.{entries_in, ByJournal, ByOneSpace, Tells, TellsAll, TellsUp, AllButOne, IsTheirs, IsOfAll}
-use Rattle.hpx_top.specs.Ends.{IsWhole, IsBroken, IsBrokenOff, IsBrokenIn, IsBrokenAtEnd, IsBegun, IsShort}
+use Rattle.hpx_top.specs.Session.{entries_in, ByJournal, ByOneSpace, Tells, TellsAll, TellsUp, TellsNone, AllButOne, IsTheirs, IsOfAll}
+use Rattle.hpx_top.specs.Ends.{IsWhole, IsBroken, IsBrokenOff, IsBrokenIn, IsBrokenAtEnd, IsBrokenAtOpening, IsBegun, IsShort}
 use Rattle.hpx_top.specs.Runs.{Ports, HasServed, BeginsPlainly}
 use Rattle.hpx_top.proofs.LineLemmas.{front_then, text_front}
 use Rattle.hpx_top.proofs.PartLemmas.{none_own, owns_less, plain_free, told_plainly}
@@ -57,6 +57,7 @@ module _ (console : UserConsole) (n : ℕ) (p : Profile) (cuts : List ℕ) (some
       lines = b.lines;
       text = b.text;
       told = tells_all b.handled b.text (front_own b.handled b.next b.later b.first) b.told;
+      ended = λ none. tt;
       is = b.is;
     }
 
@@ -77,32 +78,37 @@ module _ (console : UserConsole) (n : ℕ) (p : Profile) (cuts : List ℕ) (some
     not_held : (old new : Option (List ℕ)) → IsBrokenAtEnd console (ByJournal (rules_of act_of n p) cuts) input entries old new → ⊥
     not_held old new b = let both : true ≡ false = sym b.held ∙ plain_free console (lines_of input) own in cc
 
-    broken : (old new : Option (List ℕ)) → IsBroken console (ByJournal (rules_of act_of n p) cuts) input entries old new → IsBroken console (ByOneSpace n) input entries old new
-    broken old new (inl b) = inl (broken_in old new b)
-    broken old new (inr (inl b)) = absurd (not_held old new b)
-    broken old new (inr (inr b)) = inr (inr b)
+    at_opening : (left old new : Option (List ℕ)) → IsBrokenAtOpening console (ByJournal (rules_of act_of n p) cuts) input left entries old new
+        → IsBrokenAtOpening console (ByOneSpace n) input left entries old new
+    at_opening left old new b = record { only = b.only; unread = b.unread; none = tt; lines = b.lines; text = b.text }
+
+    broken : (left old new : Option (List ℕ)) → IsBroken console (ByJournal (rules_of act_of n p) cuts) input left entries old new
+        → IsBroken console (ByOneSpace n) input left entries old new
+    broken left old new (inl b) = inl (broken_in old new b)
+    broken left old new (inr (inl b)) = absurd (not_held old new b)
+    broken left old new (inr (inr b)) = inr (inr (at_opening left old new b))
 
     short : (left old new : Option (List ℕ)) → IsShort console (ByJournal (rules_of act_of n p) cuts) input left entries old new → IsShort console (ByOneSpace n) input left entries old new
     unfolding broken_off
     short left old new (inl b) = inl (broken_off 1 old new b.0, b.1)
     short left old new (inr (inl b)) = absurd (not_held old new b)
-    short left old new (inr (inr b)) = inr (inr b)
+    short left old new (inr (inr b)) = inr (inr (at_opening left old new b))
 
     theirs : (handled : List (List ℕ)) (A B : Type 0) (text : List ℕ) → none_own console handled ≡ false
         → (IsTheirs console (ByJournal (rules_of act_of n p) cuts) entries handled text
         ⊎ (IsOfAll console (ByJournal (rules_of act_of n p) cuts) entries handled text × A × B)
-        ⊎ ((handled ≡ []) × A × IsFront text (commands console)))
+        ⊎ ((handled ≡ []) × A × TellsNone (ByJournal (rules_of act_of n p) cuts) × IsFront text (commands console)))
         → (IsTheirs console (ByOneSpace n) entries handled text
         ⊎ (IsOfAll console (ByOneSpace n) entries handled text × A × B)
-        ⊎ ((handled ≡ []) × A × IsFront text (commands console)))
+        ⊎ ((handled ≡ []) × A × TellsNone (ByOneSpace n) × IsFront text (commands console)))
     theirs handled A B text free (inl t) = inl (t.0, tells_all handled t.0 free t.1, t.2)
     theirs handled A B text free (inr (inl t)) = inr (inl ((t.0.0, tells_up handled t.0.0 free t.0.1, t.0.2), t.1, t.2))
-    theirs handled A B text free (inr (inr t)) = inr (inr t)
+    theirs handled A B text free (inr (inr t)) = inr (inr (t.0, t.1, tt, t.3))
 
     count : (handled : List (List ℕ)) (A B : Type 0) (text : List ℕ)
         → (IsTheirs console (ByJournal (rules_of act_of n p) cuts) entries handled text
         ⊎ (IsOfAll console (ByJournal (rules_of act_of n p) cuts) entries handled text × A × B)
-        ⊎ ((handled ≡ []) × A × IsFront text (commands console))) → length handled ≤ 67108865
+        ⊎ ((handled ≡ []) × A × TellsNone (ByJournal (rules_of act_of n p) cuts) × IsFront text (commands console))) → length handled ≤ 67108865
     count handled A B text (inl t) = omega (arith, t.1.1, many)
     count handled A B text (inr (inl t)) = omega (arith, t.0.1.count, many)
     count handled A B text (inr (inr t)) = omega (arith, ap length t.0)
@@ -151,7 +157,7 @@ begins_plainly console n input entries old new b = record { text = b.text; is = 
 
     front : (IsTheirs console (ByOneSpace n) entries b.handled b.text
         ⊎ (IsOfAll console (ByOneSpace n) entries b.handled b.text × (b.next ≡ []) × (b.later ≡ []))
-        ⊎ ((b.handled ≡ []) × (b.next ≡ []) × IsFront b.text (commands console)))
+        ⊎ ((b.handled ≡ []) × (b.next ≡ []) × TellsNone (ByOneSpace n) × IsFront b.text (commands console)))
         → IsFront b.text (commands console ++ (lines_text console n (lines_of input) ++ prompt))
     front (inl t) =
         front_then b.text (commands console ++ (lines_text console n b.handled ++ prompt)) (commands console ++ (lines_text console n (lines_of input) ++ prompt))
@@ -160,7 +166,7 @@ begins_plainly console n input entries old new b = record { text = b.text; is = 
         front_then b.text (commands console ++ (lines_text console n b.handled ++ prompt)) (commands console ++ (lines_text console n (lines_of input) ++ prompt))
         (subst (λ x. IsFront b.text (commands console ++ x)) t.0.1 t.0.2) grows
     front (inr (inr t)) =
-        front_then b.text (commands console) (commands console ++ (lines_text console n (lines_of input) ++ prompt)) t.2
+        front_then b.text (commands console) (commands console ++ (lines_text console n (lines_of input) ++ prompt)) t.3
         (record { later = lines_text console n (lines_of input) ++ prompt; is = refl })
 
 -- ---- a whole run
@@ -176,7 +182,7 @@ served_plainly console n p s cuts input o x z some few many legal calm own h =
         read_up = h.read_up;
         begun = plain;
         between_lines = λ why. broken_off console n p cuts some few many (entries_in o) legal calm input own 0 x.text z.text (h.between_lines why);
-        refused = λ why. broken console n p cuts some few many (entries_in o) legal calm input own x.text z.text (h.refused why);
+        refused = λ why. broken console n p cuts some few many (entries_in o) legal calm input own z.left x.text z.text (h.refused why);
         short = λ six. short_in o legal calm (h.short six);
         read_on = h.read_on;
         full = h.full;

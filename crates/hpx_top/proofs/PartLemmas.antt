@@ -1,7 +1,7 @@
 -- Parts of lines, one behind the others: what is fed, what is written, and what one plain space says of them.
 use Rattle.std.specs.Prelude.{◌||◌, if◌then◌else◌}
-use Rattle.std.specs.List.{concat, list_any}
-use Rattle.std.proofs.Common.{ℕ, Bool, true, false, List, [], ◌∷◌, ◌++◌, ◌≡◌, ◌<◌, ◌≤◌, ◌⊎◌, length, take, refl, sym, ap, ◌∙◌, subst, inl, inr, arith, append-nil, append_assoc, length-append}
+use Rattle.std.specs.List.{concat, list_any, AllByRecursion}
+use Rattle.std.proofs.Common.{ℕ, Bool, true, false, List, [], ◌∷◌, ◌++◌, ◌≡◌, ◌<◌, ◌≤◌, length, map, take, refl, sym, ap, ◌∙◌, subst, arith, append-nil, append_assoc, length-append}
 use Rattle.std.proofs.lemmas.List.{take_all, take-append-le}
 use Rattle.std.proofs.lemmas.List.Folds.{list_any-append}
 use Rattle.hpx_value.specs.declared.profile.Profile.{Profile}
@@ -23,13 +23,14 @@ use Rattle.hpx_own.specs.declared.lines.Handled.TheVariants.{Fed, Hold, Turn, Dr
 use Rattle.app_console.specs.declared.table.Console.TheVariants as Tables
 use Rattle.app_console.specs.Console.{prompt}
 use Rattle.app_console.specs.Lines.{is_long, first_of, others_of, opening}
-use Rattle.app_console.specs.Text.{too_long, marked, written}
-use Rattle.app_console.proofs.JournalText.{law_opened_whole, law_plain}
+use Rattle.app_console.specs.Plain.{Plain, line_end, texts_of}
+use Rattle.app_console.specs.Text.{too_long, marked, written, lines_text as lines_text_in}
+use Rattle.app_console.proofs.JournalText.{law_each_line, law_opened_whole}
 use Rattle.hpx_top.specs.Acts.{act_of}
 use Rattle.hpx_top.proofs.ActLemmas.{acting}
 use Rattle.hpx_top.specs.declared.consoles.UserConsole.{UserConsole}
 use Rattle.hpx_top.specs.declared.consoles.UserConsole.TheVariants.{Accumulator, Space}
-use Rattle.hpx_top.specs.Texts.{How, TooLong, Typed, fed, fed_lines, held_behind, held_by, how, is_fed, is_own, lines_text, mark_of, opens, owns}
+use Rattle.hpx_top.specs.Texts.{How, TooLong, Typed, fed, fed_lines, held_behind, held_by, how, is_fed, is_own, left_by, lines_text, mark_of, opens, owns, said, said_for, start_of, table_of}
 use Rattle.hpx_top.specs.Parts.{Part, Rests, AreParts, Does, IsOwn, IsPart, IsHandled, cuts_of, journal_of, part_text, text_of}
 use Rattle.hpx_top.specs.Session.{lines_fed, IsOpened, IsTold}
 use Rattle.hpx_top.proofs.LineLemmas.{block_line, none_fed}
@@ -185,101 +186,138 @@ pub owns_less : (console : UserConsole) (xs ys : List (List ℕ)) → none_own c
 owns_less console xs ys h =
     (or_none (none_own console xs) (none_own console ys) (sym (list_any-append (λ line. is_own (how console line)) xs ys) ∙ h)).0
 
--- then a line is too long, or fed
-kind_by : (long : Bool) (h : Handled) → is_own (if long then TooLong else Typed h) ≡ false
-    → ((long ≡ true) × ((if long then TooLong else Typed h) ≡ TooLong)) ⊎ ((long ≡ false) × ((if long then TooLong else Typed h) ≡ Typed Fed))
-kind_by true h own = inl (refl, refl)
-kind_by false Fed own = inr (refl, refl)
-kind_by false Hold own = absurd (let no : true ≡ false = own in cc)
-kind_by false (Turn n) own = absurd (let no : true ≡ false = own in cc)
-kind_by false Drain own = absurd (let no : true ≡ false = own in cc)
-kind_by false Audit own = absurd (let no : true ≡ false = own in cc)
-kind_by false (Count c) own = absurd (let no : true ≡ false = own in cc)
-kind_by false (Refused why) own = absurd (let no : true ≡ false = own in cc)
+-- how such a line is handled
+data IsKind (console : UserConsole) (line : List ℕ) : Type 0 where
+  IsTooLong : is_long line ≡ true → how console line ≡ TooLong → IsKind console line
+  IsFedLine : is_long line ≡ false → how console line ≡ Typed Fed → IsKind console line
+  IsDrain : how console line ≡ Typed Drain → IsKind console line
 
-plain_kind : (console : UserConsole) (line : List ℕ) → is_own (how console line) ≡ false
-    → ((is_long line ≡ true) × (how console line ≡ TooLong)) ⊎ ((is_long line ≡ false) × (how console line ≡ Typed Fed))
-plain_kind console line own = kind_by (is_long line) (handled_as (owns console) line) own
-
--- a line that is too long does nothing, and its text is its own
-record IsLongPart (console : UserConsole) (line : List ℕ) (part : Part) : Type 0 where
-  long : is_long line ≡ true
-  so : how console line ≡ TooLong
-  none : part.entries ≡ []
-  own : part.own ≡ too_long
-
--- a line that is fed has a block, and no text of the top call
-record IsFedPart (console : UserConsole) (r : Rules) (before : List Entry) (line : List ℕ) (part : Part) : Type 0 where
-  short : is_long line ≡ false
-  fed : how console line ≡ Typed Fed
-  begins : BeginsWith (mark_of console ∷ line) part.entries
-  rests : Rests r (before ++ part.entries)
-  own : part.own ≡ []
-
-plain_part : (console : UserConsole) (r : Rules) (before : List Entry) (line : List ℕ) (part : Part) → is_own (how console line) ≡ false
-    → IsPart console r false before line part → IsLongPart console line part ⊎ IsFedPart console r before line part
-plain_part console r before line part own p = by (plain_kind console line own)
+plain_kind : (console : UserConsole) (line : List ℕ) → is_own (how console line) ≡ false → IsKind console line
+plain_kind console line own = by (is_long line) (handled_as (owns console) line) refl refl own
   where
-    by : ((is_long line ≡ true) × (how console line ≡ TooLong)) ⊎ ((is_long line ≡ false) × (how console line ≡ Typed Fed))
-        → IsLongPart console line part ⊎ IsFedPart console r before line part
-    by (inl long) =
-        let did : Does r (mark_of console ∷ line) false TooLong before part.entries =
-        subst (λ h. Does r (mark_of console ∷ line) false h before part.entries) long.1 p.did in
-        let text : IsOwn r false TooLong (before ++ part.entries) part.own =
-        subst (λ h. IsOwn r false h (before ++ part.entries) part.own) long.1 p.own in
-        inl (record { long = long.0; so = long.1; none = did.none; own = text })
-    by (inr short) =
-        let did : Does r (mark_of console ∷ line) false (Typed Fed) before part.entries =
-        subst (λ h. Does r (mark_of console ∷ line) false h before part.entries) short.1 p.did in
-        let text : IsOwn r false (Typed Fed) (before ++ part.entries) part.own =
-        subst (λ h. IsOwn r false h (before ++ part.entries) part.own) short.1 p.own in
-        inr (record { short = short.0; fed = short.1; begins = did.0; rests = did.1; own = text })
+    by : (long : Bool) (h : Handled) → is_long line ≡ long → how console line ≡ (if long then TooLong else Typed h) → is_own (if long then TooLong else Typed h) ≡ false
+        → IsKind console line
+    by true h long is own = IsTooLong long is
+    by false Fed long is own = IsFedLine long is
+    by false Drain long is own = IsDrain is
+    by false Hold long is own = absurd (let no : true ≡ false = own in cc)
+    by false (Turn n) long is own = absurd (let no : true ≡ false = own in cc)
+    by false Audit long is own = absurd (let no : true ≡ false = own in cc)
+    by false (Count c) long is own = absurd (let no : true ≡ false = own in cc)
+    by false (Refused why) long is own = absurd (let no : true ≡ false = own in cc)
 
--- the blocks of the lines that are fed
-abbrev blocks_of : List (List ℕ) → List Part → List (List Entry)
-blocks_of [] parts = []
-blocks_of (line ∷ lines) [] = []
-blocks_of (line ∷ lines) (part ∷ parts) = if is_long line then blocks_of lines parts else part.entries ∷ blocks_of lines parts
+-- behind them nothing is held back
+free_by : (console : UserConsole) (line : List ℕ) → IsKind console line → held_by false (how console line) ≡ false
+free_by console line (IsTooLong long is) = ap (held_by false) is
+free_by console line (IsFedLine short is) = ap (held_by false) is
+free_by console line (IsDrain is) = ap (held_by false) is
 
--- the parts are a session of the lines, and their text is what is written for its blocks
+pub plain_free : (console : UserConsole) (lines : List (List ℕ)) → none_own console lines ≡ false → held_behind console false lines ≡ false
+plain_free console [] own = refl
+plain_free console (line ∷ lines) own =
+    let none = or_none (is_own (how console line)) (none_own console lines) own in
+    ap (λ held. held_behind console held lines) (free_by console line (plain_kind console line none.0)) ∙ plain_free console lines none.1
+
+-- ---- the lines that are fed, and their texts
+
+-- what belongs to a line that is fed, before what belongs to the others
+abbrev keep : {T : Type 0} → How → T → List T → List T
+keep (Typed Fed) x xs = x ∷ xs
+keep _ x xs = xs
+
+abbrev kept : UserConsole → List (List ℕ) → List (List ℕ)
+kept console [] = []
+kept console (line ∷ lines) = keep (how console line) line (kept console lines)
+
+abbrev blocks_of : UserConsole → List (List ℕ) → List Part → List (List Entry)
+blocks_of console [] parts = []
+blocks_of console (line ∷ lines) [] = []
+blocks_of console (line ∷ lines) (part ∷ parts) = keep (how console line) part.entries (blocks_of console lines parts)
+
+-- the text of a line, where the texts of those that are fed are these, and what is left of them
+abbrev woven_for : How → List (List ℕ) → List ℕ
+woven_for TooLong texts = too_long
+woven_for (Typed Fed) [] = []
+woven_for (Typed Fed) (text ∷ texts) = text
+woven_for _ texts = []
+
+abbrev others : How → List (List ℕ) → List (List ℕ)
+others (Typed Fed) [] = []
+others (Typed Fed) (text ∷ texts) = texts
+others _ texts = texts
+
+abbrev woven : UserConsole → List (List ℕ) → List (List ℕ) → List ℕ
+woven console [] texts = []
+woven console (line ∷ lines) texts = prompt ++ (woven_for (how console line) texts ++ woven console lines (others (how console line) texts))
+
+-- ---- the parts of such lines
+
+-- the parts are a session of the lines that are fed, and their text is woven of what its blocks print
 record IsPlain (console : UserConsole) (r : Rules) (before : List Entry) (lines : List (List ℕ)) (parts : List Part) : Type 0 where
-  session : IsSession r before (marked (mark_of console) lines) (blocks_of lines parts)
-  entries : entries_of (blocks_of lines parts) ≡ journal_of parts
-  text : written lines (shown_blocks (blocks_of lines parts)) ≡ text_of parts
+  session : IsSession r before (fed_lines console lines) (blocks_of console lines parts)
+  entries : entries_of (blocks_of console lines parts) ≡ journal_of parts
+  text : woven console lines (map concat (shown_blocks (blocks_of console lines parts))) ≡ text_of parts
 
-plain_long : (console : UserConsole) (r : Rules) (before : List Entry) (line : List ℕ) (lines : List (List ℕ)) (part : Part) (parts : List Part)
-    → IsLongPart console line part → IsPlain console r (before ++ part.entries) lines parts → IsPlain console r before (line ∷ lines) (part ∷ parts)
-plain_long console r before line lines part parts p next =
-    let mark = mark_of console in
-    let rest = blocks_of lines parts in
-    let same : before ++ part.entries ≡ before = ap (λ es. before ++ es) p.none ∙ append-nil before in
+-- a line that is not fed does nothing, and its text is its own
+plain_unfed : (console : UserConsole) (r : Rules) (before : List Entry) (line : List ℕ) (lines : List (List ℕ)) (part : Part) (parts : List Part) (own : List ℕ)
+    → fed_lines console (line ∷ lines) ≡ fed_lines console lines → blocks_of console (line ∷ lines) (part ∷ parts) ≡ blocks_of console lines parts
+    → ((texts : List (List ℕ)) → woven console (line ∷ lines) texts ≡ prompt ++ (own ++ woven console lines texts))
+    → part.entries ≡ [] → part.own ≡ own → IsPlain console r (before ++ part.entries) lines parts → IsPlain console r before (line ∷ lines) (part ∷ parts)
+plain_unfed console r before line lines part parts own fed blocks says none is next =
+    let same : before ++ part.entries ≡ before = ap (λ es. before ++ es) none ∙ append-nil before in
+    let rest = blocks_of console lines parts in
     record {
-      session = subst (λ b. IsSession r before (if b then marked mark lines else (mark ∷ line) ∷ marked mark lines) (if b then rest else part.entries ∷ rest)) (sym p.long)
-          (subst (λ es. IsSession r es (marked mark lines) rest) same next.session);
-      entries = ap (λ b. entries_of (if b then rest else part.entries ∷ rest)) p.long ∙ (next.entries ∙ ap (λ es. es ++ journal_of parts) (sym p.none));
-      text = ap (λ b. if b then prompt ++ (too_long ++ written lines (shown_blocks (if b then rest else part.entries ∷ rest)))
-          else prompt ++ (first_of (shown_blocks (if b then rest else part.entries ∷ rest)) ++ written lines (others_of (shown_blocks (if b then rest else part.entries ∷ rest))))) p.long
-          ∙ (ap (λ t. prompt ++ (too_long ++ t)) next.text
-          ∙ (ap (λ t. prompt ++ (t ++ text_of parts)) (sym p.own) ∙ ap (λ es. prompt ++ (concat (prints_of es) ++ (part.own ++ text_of parts))) (sym p.none)));
+      session = subst (λ ls. IsSession r before ls (blocks_of console (line ∷ lines) (part ∷ parts))) (sym fed)
+          (subst (λ bs. IsSession r before (fed_lines console lines) bs) (sym blocks) (subst (λ es. IsSession r es (fed_lines console lines) rest) same next.session));
+      entries = ap entries_of blocks ∙ (next.entries ∙ ap (λ es. es ++ journal_of parts) (sym none));
+      text = ap (λ bs. woven console (line ∷ lines) (map concat (shown_blocks bs))) blocks
+          ∙ (says (map concat (shown_blocks rest))
+          ∙ (ap (λ t. prompt ++ (own ++ t)) next.text
+          ∙ (ap (λ t. prompt ++ (t ++ text_of parts)) (sym is) ∙ ap (λ es. prompt ++ (concat (prints_of es) ++ (part.own ++ text_of parts))) (sym none))));
     }
 
-plain_fed : (console : UserConsole) (r : Rules) (before : List Entry) (line : List ℕ) (lines : List (List ℕ)) (part : Part) (parts : List Part)
-    → IsLegal r (before ++ part.entries) → IsFedPart console r before line part → IsPlain console r (before ++ part.entries) lines parts
+-- a line that is fed has a block
+plain_fed : (console : UserConsole) (r : Rules) (before : List Entry) (line : List ℕ) (lines : List (List ℕ)) (part : Part) (parts : List Part) → how console line ≡ Typed Fed
+    → IsBlock r before (mark_of console ∷ line) part.entries → part.own ≡ [] → IsPlain console r (before ++ part.entries) lines parts
     → IsPlain console r before (line ∷ lines) (part ∷ parts)
-plain_fed console r before line lines part parts legal p next =
-    let mark = mark_of console in
-    let rest = blocks_of lines parts in
-    let block : IsBlock r before (mark ∷ line) part.entries =
-    record { legal = legal; begins = p.begins; settled = quiet_settled r (replayed r (before ++ part.entries)) p.rests.quiet } in
+plain_fed console r before line lines part parts is block own next =
+    let rest = blocks_of console lines parts in
+    let fed : fed_lines console (line ∷ lines) ≡ (mark_of console ∷ line) ∷ fed_lines console lines =
+    ap (λ h. if is_fed h then (mark_of console ∷ line) ∷ fed_lines console lines else fed_lines console lines) is in
+    let blocks : blocks_of console (line ∷ lines) (part ∷ parts) ≡ part.entries ∷ rest = ap (λ h. keep h part.entries rest) is in
     record {
-      session = subst (λ b. IsSession r before (if b then marked mark lines else (mark ∷ line) ∷ marked mark lines) (if b then rest else part.entries ∷ rest)) (sym p.short)
-          (block, next.session);
-      entries = ap (λ b. entries_of (if b then rest else part.entries ∷ rest)) p.short ∙ ap (λ es. part.entries ++ es) next.entries;
-      text = ap (λ b. if b then prompt ++ (too_long ++ written lines (shown_blocks (if b then rest else part.entries ∷ rest)))
-          else prompt ++ (first_of (shown_blocks (if b then rest else part.entries ∷ rest)) ++ written lines (others_of (shown_blocks (if b then rest else part.entries ∷ rest))))) p.short
+      session = subst (λ ls. IsSession r before ls (blocks_of console (line ∷ lines) (part ∷ parts))) (sym fed)
+          (subst (λ bs. IsSession r before ((mark_of console ∷ line) ∷ fed_lines console lines) bs) (sym blocks) (block, next.session));
+      entries = ap entries_of blocks ∙ ap (λ es. part.entries ++ es) next.entries;
+      text = ap (λ bs. woven console (line ∷ lines) (map concat (shown_blocks bs))) blocks
+          ∙ (ap (λ h. prompt ++ (woven_for h (concat (prints_of part.entries) ∷ map concat (shown_blocks rest))
+          ++ woven console lines (others h (concat (prints_of part.entries) ∷ map concat (shown_blocks rest))))) is
           ∙ (ap (λ t. prompt ++ (concat (prints_of part.entries) ++ t)) next.text
-          ∙ ap (λ t. prompt ++ (concat (prints_of part.entries) ++ (t ++ text_of parts))) (sym p.own));
+          ∙ ap (λ t. prompt ++ (concat (prints_of part.entries) ++ (t ++ text_of parts))) (sym own)));
     }
+
+plain_part : (console : UserConsole) (r : Rules) (before : List Entry) (line : List ℕ) (lines : List (List ℕ)) (part : Part) (parts : List Part) → IsKind console line
+    → IsPart console r false before line part → IsLegal r (before ++ part.entries) → IsPlain console r (before ++ part.entries) lines parts
+    → IsPlain console r before (line ∷ lines) (part ∷ parts)
+plain_part console r before line lines part parts (IsTooLong long is) p legal next =
+    let did : Does r (mark_of console ∷ line) false TooLong before part.entries = subst (λ h. Does r (mark_of console ∷ line) false h before part.entries) is p.did in
+    let text : IsOwn r false TooLong (before ++ part.entries) part.own = subst (λ h. IsOwn r false h (before ++ part.entries) part.own) is p.own in
+    plain_unfed console r before line lines part parts too_long
+    (ap (λ h. if is_fed h then (mark_of console ∷ line) ∷ fed_lines console lines else fed_lines console lines) is)
+    (ap (λ h. keep h part.entries (blocks_of console lines parts)) is)
+    (λ texts. ap (λ h. prompt ++ (woven_for h texts ++ woven console lines (others h texts))) is) did.none text next
+plain_part console r before line lines part parts (IsDrain is) p legal next =
+    let did : Does r (mark_of console ∷ line) false (Typed Drain) before part.entries = subst (λ h. Does r (mark_of console ∷ line) false h before part.entries) is p.did in
+    let text : IsOwn r false (Typed Drain) (before ++ part.entries) part.own = subst (λ h. IsOwn r false h (before ++ part.entries) part.own) is p.own in
+    plain_unfed console r before line lines part parts []
+    (ap (λ h. if is_fed h then (mark_of console ∷ line) ∷ fed_lines console lines else fed_lines console lines) is)
+    (ap (λ h. keep h part.entries (blocks_of console lines parts)) is)
+    (λ texts. ap (λ h. prompt ++ (woven_for h texts ++ woven console lines (others h texts))) is) did.none text next
+plain_part console r before line lines part parts (IsFedLine short is) p legal next =
+    let did : Does r (mark_of console ∷ line) false (Typed Fed) before part.entries = subst (λ h. Does r (mark_of console ∷ line) false h before part.entries) is p.did in
+    let text : IsOwn r false (Typed Fed) (before ++ part.entries) part.own = subst (λ h. IsOwn r false h (before ++ part.entries) part.own) is p.own in
+    plain_fed console r before line lines part parts is
+    (record { legal = legal; begins = did.0; settled = quiet_settled r (replayed r (before ++ part.entries)) did.1.quiet }) text next
 
 plain_parts : (console : UserConsole) (r : Rules) (before : List Entry) (lines : List (List ℕ)) (parts : List Part) → none_own console lines ≡ false
     → AreParts console r false before lines parts → IsLegal r (before ++ journal_of parts) → IsPlain console r before lines parts
@@ -288,51 +326,139 @@ plain_parts console r before [] (part ∷ parts) own h legal = absurd h
 plain_parts console r before (line ∷ lines) [] own h legal = absurd h
 plain_parts console r before (line ∷ lines) (part ∷ parts) own h legal =
     let none = or_none (is_own (how console line)) (none_own console lines) own in
+    let kind = plain_kind console line none.0 in
     let all : IsLegal r ((before ++ part.entries) ++ journal_of parts) = subst (IsLegal r) (sym (append_assoc before part.entries (journal_of parts))) legal in
-    by all (λ rest. plain_parts console r (before ++ part.entries) lines parts none.1 rest all) (plain_part console r before line part none.0 h.0)
-  where
-    by : IsLegal r ((before ++ part.entries) ++ journal_of parts)
-        → (AreParts console r false (before ++ part.entries) lines parts → IsPlain console r (before ++ part.entries) lines parts)
-        → IsLongPart console line part ⊎ IsFedPart console r before line part → IsPlain console r before (line ∷ lines) (part ∷ parts)
-    by all next (inl p) =
-        plain_long console r before line lines part parts p (next (subst (λ w. AreParts console r (held_by false w) (before ++ part.entries) lines parts) p.so h.1))
-    by all next (inr p) =
-        plain_fed console r before line lines part parts (legal_front r (start (roots r.localities)) (before ++ part.entries) (journal_of parts) all) p
-        (next (subst (λ w. AreParts console r (held_by false w) (before ++ part.entries) lines parts) p.fed h.1))
+    let later = subst (λ held. AreParts console r held (before ++ part.entries) lines parts) (free_by console line kind) h.1 in
+    plain_part console r before line lines part parts kind h.0 (legal_front r (start (roots r.localities)) (before ++ part.entries) (journal_of parts) all)
+    (plain_parts console r (before ++ part.entries) lines parts none.1 later all)
 
--- behind them nothing is held back
-pub plain_free : (console : UserConsole) (lines : List (List ℕ)) → none_own console lines ≡ false → held_behind console false lines ≡ false
-plain_free console [] own = refl
-plain_free console (line ∷ lines) own =
-    let none = or_none (is_own (how console line)) (none_own console lines) own in
-    by (plain_free console lines none.1) (plain_kind console line none.0)
+-- ---- in the words of the console's law
+
+-- the lines of the accumulator are fed, or too long
+accumulator_fed : (lines : List (List ℕ)) → fed_lines Accumulator lines ≡ marked 97 lines
+accumulator_fed [] = refl
+accumulator_fed (line ∷ lines) = by (is_long line) (accumulator_fed lines)
   where
-    by : held_behind console false lines ≡ false → ((is_long line ≡ true) × (how console line ≡ TooLong)) ⊎ ((is_long line ≡ false) × (how console line ≡ Typed Fed))
-        → held_behind console (held_by false (how console line)) lines ≡ false
-    by rest (inl long) = subst (λ w. held_behind console (held_by false w) lines ≡ false) (sym long.1) rest
-    by rest (inr short) = subst (λ w. held_behind console (held_by false w) lines ≡ false) (sym short.1) rest
+    by : (long : Bool) → fed_lines Accumulator lines ≡ marked 97 lines
+        → (if is_fed (if long then TooLong else Typed Fed) then (97 ∷ line) ∷ fed_lines Accumulator lines else fed_lines Accumulator lines)
+        ≡ (if long then marked 97 lines else (97 ∷ line) ∷ marked 97 lines)
+    by true h = h
+    by false h = ap (λ ls. (97 ∷ line) ∷ ls) h
+
+accumulator_woven : (lines : List (List ℕ)) (texts : List (List (List ℕ))) → woven Accumulator lines (map concat texts) ≡ written lines texts
+accumulator_woven [] texts = refl
+accumulator_woven (line ∷ lines) texts = by (is_long line) texts (accumulator_woven lines)
+  where
+    by : (long : Bool) (texts : List (List (List ℕ))) → ((ts : List (List (List ℕ))) → woven Accumulator lines (map concat ts) ≡ written lines ts)
+        → prompt ++ (woven_for (if long then TooLong else Typed Fed) (map concat texts) ++ woven Accumulator lines (others (if long then TooLong else Typed Fed) (map concat texts)))
+        ≡ (if long then prompt ++ (too_long ++ written lines texts) else prompt ++ (first_of texts ++ written lines (others_of texts)))
+    by true texts next = ap (λ t. prompt ++ (too_long ++ t)) (next texts)
+    by false [] next = ap (λ t. prompt ++ t) (next [])
+    by false (t ∷ ts) next = ap (λ x. prompt ++ (concat t ++ x)) (next ts)
+
+accumulator_said : (n : ℕ) (v : Plain) (lines : List (List ℕ)) → lines_text_in Tables.Accumulator n v lines ≡ said Accumulator n v lines
+accumulator_said n v [] = refl
+accumulator_said n v (line ∷ lines) = by (is_long line) (λ v. accumulator_said n v lines)
+  where
+    by : (long : Bool) → ((v : Plain) → lines_text_in Tables.Accumulator n v lines ≡ said Accumulator n v lines)
+        → prompt ++ ((if long then too_long else (line_end Tables.Accumulator n v line).text)
+        ++ lines_text_in Tables.Accumulator n (if long then v else (line_end Tables.Accumulator n v line).plain) lines)
+        ≡ prompt ++ (said_for (if long then TooLong else Typed Fed) Tables.Accumulator n v line
+        ++ said Accumulator n (left_by (if long then TooLong else Typed Fed) Tables.Accumulator n v line) lines)
+    by true next = ap (λ t. prompt ++ (too_long ++ t)) (next v)
+    by false next = ap (λ t. prompt ++ ((line_end Tables.Accumulator n v line).text ++ t)) (next (line_end Tables.Accumulator n v line).plain)
+
+-- those that are fed are not too long
+record AreKept (console : UserConsole) (n : ℕ) (lines : List (List ℕ)) : Type 0 where
+  fit : AllByRecursion (λ line. is_long line ≡ false) (kept console lines)
+  fed : marked (mark_of console) (kept console lines) ≡ fed_lines console lines
+  few : length (kept console lines) ≤ length lines
+  says : (v : Plain) → woven console lines (texts_of (table_of console) n v (kept console lines)) ≡ said console n v lines
+
+kept_unfed : (console : UserConsole) (n : ℕ) (line : List ℕ) (lines : List (List ℕ)) (own : List ℕ) → kept console (line ∷ lines) ≡ kept console lines
+    → fed_lines console (line ∷ lines) ≡ fed_lines console lines → ((texts : List (List ℕ)) → woven console (line ∷ lines) texts ≡ prompt ++ (own ++ woven console lines texts))
+    → ((v : Plain) → said console n v (line ∷ lines) ≡ prompt ++ (own ++ said console n v lines)) → AreKept console n lines → AreKept console n (line ∷ lines)
+kept_unfed console n line lines own none fed weaves says k = record {
+  fit = subst (AllByRecursion (λ line. is_long line ≡ false)) (sym none) k.fit;
+  fed = ap (marked (mark_of console)) none ∙ (k.fed ∙ sym fed);
+  few = omega (arith, ap length none, k.few);
+  says = λ v.
+      ap (λ ls. woven console (line ∷ lines) (texts_of (table_of console) n v ls)) none
+      ∙ (weaves (texts_of (table_of console) n v (kept console lines)) ∙ (ap (λ t. prompt ++ (own ++ t)) (k.says v) ∙ sym (says v)));
+}
+
+kept_fed : (console : UserConsole) (n : ℕ) (line : List ℕ) (lines : List (List ℕ)) → is_long line ≡ false → how console line ≡ Typed Fed → AreKept console n lines
+    → AreKept console n (line ∷ lines)
+kept_fed console n line lines short is k =
+    let mark = mark_of console in
+    let table = table_of console in
+    let one : kept console (line ∷ lines) ≡ line ∷ kept console lines = ap (λ h. keep h line (kept console lines)) is in
+    record {
+      fit = subst (AllByRecursion (λ line. is_long line ≡ false)) (sym one) (short, k.fit);
+      fed = ap (marked mark) one
+          ∙ (ap (λ b. if b then marked mark (kept console lines) else (mark ∷ line) ∷ marked mark (kept console lines)) short
+          ∙ (ap (λ ls. (mark ∷ line) ∷ ls) k.fed
+          ∙ sym (ap (λ h. if is_fed h then (mark ∷ line) ∷ fed_lines console lines else fed_lines console lines) is)));
+      few = omega (arith, ap length one, k.few);
+      says = λ v.
+          let end = line_end table n v line in
+          let texts = texts_of table n end.plain (kept console lines) in
+          ap (λ ls. woven console (line ∷ lines) (texts_of table n v ls)) one
+          ∙ (ap (λ h. prompt ++ (woven_for h (end.text ∷ texts) ++ woven console lines (others h (end.text ∷ texts)))) is
+          ∙ (ap (λ t. prompt ++ (end.text ++ t)) (k.says end.plain)
+          ∙ sym (ap (λ h. prompt ++ (said_for h table n v line ++ said console n (left_by h table n v line) lines)) is)));
+    }
+
+are_kept : (console : UserConsole) (n : ℕ) (lines : List (List ℕ)) → none_own console lines ≡ false → AreKept console n lines
+are_kept console n [] own = record { fit = tt; fed = refl; few = omega arith; says = λ v. refl }
+are_kept console n (line ∷ lines) own =
+    let none = or_none (is_own (how console line)) (none_own console lines) own in
+    by (plain_kind console line none.0) (are_kept console n lines none.1)
+  where
+    by : IsKind console line → AreKept console n lines → AreKept console n (line ∷ lines)
+    by (IsFedLine short is) k = kept_fed console n line lines short is k
+    by (IsTooLong long is) k =
+        kept_unfed console n line lines too_long (ap (λ h. keep h line (kept console lines)) is)
+        (ap (λ h. if is_fed h then (mark_of console ∷ line) ∷ fed_lines console lines else fed_lines console lines) is)
+        (λ texts. ap (λ h. prompt ++ (woven_for h texts ++ woven console lines (others h texts))) is)
+        (λ v. ap (λ h. prompt ++ (said_for h (table_of console) n v line ++ said console n (left_by h (table_of console) n v line) lines)) is) k
+    by (IsDrain is) k =
+        kept_unfed console n line lines [] (ap (λ h. keep h line (kept console lines)) is)
+        (ap (λ h. if is_fed h then (mark_of console ∷ line) ∷ fed_lines console lines else fed_lines console lines) is)
+        (λ texts. ap (λ h. prompt ++ (woven_for h texts ++ woven console lines (others h texts))) is)
+        (λ v. ap (λ h. prompt ++ (said_for h (table_of console) n v line ++ said console n (left_by h (table_of console) n v line) lines)) is) k
+
+-- ---- the text of parts
 
 plain_text : (console : UserConsole) (n : ℕ) (p : Profile) (first : List Entry) (lines : List (List ℕ)) (parts : List Part) → 1 ≤ n → n ≤ 64 → length lines < 4000000000
-    → IsOpened console (rules_of act_of n p) first → IsLegal (rules_of act_of n p) (first ++ journal_of parts) → NoneFails (first ++ journal_of parts)
-    → IsPlain console (rules_of act_of n p) first lines parts → text_of parts ≡ lines_text console n lines
-plain_text Accumulator n p first lines parts some few short opened legal calm plain =
+    → none_own console lines ≡ false → IsOpened console (rules_of act_of n p) first → IsLegal (rules_of act_of n p) (first ++ journal_of parts)
+    → NoneFails (first ++ journal_of parts) → IsPlain console (rules_of act_of n p) first lines parts → text_of parts ≡ lines_text console n lines
+plain_text Accumulator n p first lines parts some few short own opened legal calm plain =
     let r = rules_of act_of n p in
+    let blocks = blocks_of Accumulator lines parts in
     let block : IsBlock r [] opening first = record {
       legal = legal_front r (start (roots r.localities)) first (journal_of parts) legal;
       begins = opened.0;
       settled = quiet_settled r (replayed r first) opened.1.quiet;
     } in
     sym plain.text
-    ∙ (law_opened_whole acting n p.credit_log p.credit_limit parcel_of some few Tables.Accumulator 97 refl lines (first ∷ blocks_of lines parts) short (spells_well act_of n p)
-    (subst (λ es. NoneFails (first ++ es)) (sym plain.entries) calm) (block, plain.session)).1
-plain_text Space n p first lines parts some few short opened legal calm plain =
+    ∙ (accumulator_woven lines (shown_blocks blocks)
+    ∙ ((law_opened_whole acting n p.credit_log p.credit_limit parcel_of some few Tables.Accumulator 97 refl lines (first ∷ blocks) short (spells_well act_of n p)
+    (subst (λ es. NoneFails (first ++ es)) (sym plain.entries) calm)
+    (block, subst (λ ls. IsSession r first ls blocks) (accumulator_fed lines) plain.session)).1
+    ∙ accumulator_said n (start_of Accumulator n) lines))
+plain_text Space n p first lines parts some few short own opened legal calm plain =
     let r = rules_of act_of n p in
+    let blocks = blocks_of Space lines parts in
+    let k = are_kept Space n lines own in
+    let session = subst (λ ls. IsSession r [] ls blocks) (sym k.fed) (subst (λ f. IsSession r f (fed_lines Space lines) blocks) opened plain.session) in
     sym plain.text
-    ∙ law_plain acting n p.credit_log p.credit_limit parcel_of some few Tables.Space 115 refl lines (blocks_of lines parts) short (spells_well act_of n p)
-    (subst NoneFails (sym plain.entries) (subst (λ f. NoneFails (f ++ journal_of parts)) opened calm))
-    (subst (λ f. IsSession r f (marked 115 lines) (blocks_of lines parts)) opened plain.session)
+    ∙ (ap (woven Space lines)
+    (law_each_line acting n p.credit_log p.credit_limit parcel_of some few Tables.Space 115 refl (kept Space lines) blocks (omega (arith, k.few, short)) k.fit
+    (spells_well act_of n p) (subst NoneFails (sym plain.entries) (subst (λ f. NoneFails (f ++ journal_of parts)) opened calm)) session)
+    ∙ k.says (start_of Space n))
 
--- so the text of lines that are fed, or too long, is what one plain space says
+-- so the text of such lines is what one plain space says
 pub told_plainly : (console : UserConsole) (n : ℕ) (p : Profile) (cuts : List ℕ) (entries : List Entry) (lines : List (List ℕ)) (text : List ℕ) → 1 ≤ n → n ≤ 64
     → length lines < 4000000000 → none_own console lines ≡ false → IsLegal (rules_of act_of n p) entries → NoneFails entries
     → IsTold console (rules_of act_of n p) cuts entries lines text → text ≡ lines_text console n lines
@@ -341,5 +467,5 @@ told_plainly console n p cuts entries lines text some few short own legal calm t
     let es = t.first ++ journal_of t.parts in
     let fine : IsLegal r es = legal_front r (start (roots r.localities)) es t.later (subst (IsLegal r) t.entries_are legal) in
     t.text_is
-    ∙ plain_text console n p t.first lines t.parts some few short t.opened fine ((none_front es t.later (subst NoneFails t.entries_are calm)).0)
+    ∙ plain_text console n p t.first lines t.parts some few short own t.opened fine ((none_front es t.later (subst NoneFails t.entries_are calm)).0)
     (plain_parts console r t.first lines t.parts own t.handled fine)

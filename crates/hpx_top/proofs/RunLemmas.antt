@@ -18,7 +18,7 @@ use Rattle.hpx_top.specs.declared.session.SessionFault.{SessionFault}
 use Rattle.hpx_top.specs.declared.session.SessionFault.TheVariants.{Read, Write, Fabric, JournalFull, OutOfMemory, BadFrame, Strange, InputFull}
 use Rattle.hpx_top.specs.Ends.{IsWhole, IsBegun, IsShort, IsEndedBy, IsReadFrom, IsReadUp, IsReadOn, IsInputFull}
 use Rattle.hpx_top.specs.Runs.{Ports, HasCause, HasEnded, HasServed, IsLawful, ports_of}
-use Rattle.hpx_top.specs.Session.{rules, IsRested, NoneRefused, Telling}
+use Rattle.hpx_top.specs.Session.{rules, IsRested, NoneRefused, Telling, TellsNone}
 use Rattle.hpx_top.specs.declared.consoles.UserConsole.{UserConsole}
 use Rattle.hpx_top.specs.Statuses.{IsStatus, status_after}
 use Rattle.hpx_top.proofs.EndLemmas.{begun_nothing, read_from_none}
@@ -133,11 +133,11 @@ no_status r n never s = never (at r n s)
 
 pub served_of : {console : UserConsole} (telling : Telling) (r : Result ⊤ SessionFault) (w : Places) (input : List ℕ) (x z : Ports)
     → IsReadFrom input z.left x.taken z.taken → OnOk r (IsWhole console telling input w.journal.entries x.text z.text) → OnOk r (IsReadUp input z.left)
-    → IsBegun console telling input w.journal.entries x.text z.text → IfErr r (λ f. IsEndedBy console f telling input w.journal.entries x.text z.text)
+    → IsBegun console telling input w.journal.entries x.text z.text → IfErr r (λ f. IsEndedBy console f telling input z.left w.journal.entries x.text z.text)
     → (r ≡ Err OutOfMemory → IsShort console telling input z.left w.journal.entries x.text z.text) → (r ≡ Err Read → (count : ℕ) × IsReadOn count input z.left)
     → (r ≡ Err InputFull → IsInputFull input z.left) → HasServed console telling (status_after r) input (Some w) x z
 served_of {console} telling r w input x z reads whole read_up begun ended short read_on full =
-    let P : SessionFault → Type 0 = λ f. IsEndedBy console f telling input w.journal.entries x.text z.text in
+    let P : SessionFault → Type 0 = λ f. IsEndedBy console f telling input z.left w.journal.entries x.text z.text in
     record {
       reads = reads;
       whole = λ s. ended_well r _ s whole;
@@ -155,13 +155,13 @@ served_of {console} telling r w input x z reads whole read_up begun ended short 
     between (inr b) f g = g b
 
 -- without a world, for want of memory, nothing was read or written
-pub served_none : {console : UserConsole} (telling : Telling) (r : Result ⊤ SessionFault) (input : List ℕ) (x : Ports) → r ≡ Err OutOfMemory → x.left ≡ Some input
+pub served_none : {console : UserConsole} (telling : Telling) (r : Result ⊤ SessionFault) (input : List ℕ) (x : Ports) → r ≡ Err OutOfMemory → TellsNone telling → x.left ≡ Some input
     → HasServed console telling (status_after r) input None x x
-served_none {console} telling r input x e h = subst (λ q. HasServed console telling (status_after q) input None x x) (sym e) (record {
+served_none {console} telling r input x e uncut h = subst (λ q. HasServed console telling (status_after q) input None x x) (sym e) (record {
   reads = read_from_none input x.left x.taken h;
   whole = λ s. absurd (omega arith);
   read_up = λ s. absurd (omega arith);
-  begun = begun_nothing telling input [] x.text x.text refl refl;
+  begun = begun_nothing telling input [] x.text x.text refl uncut refl;
   between_lines = λ s. absurd (neither 6 2 9 (omega arith) (omega arith) s);
   refused = λ s. absurd (neither 6 4 5 (omega arith) (omega arith) s);
   short = λ s. tt;

@@ -17,7 +17,7 @@ use Rattle.hpx_top.specs.declared.consoles.UserConsole.TheVariants.{Accumulator,
 use Rattle.hpx_top.specs.Texts.{commands, fed, fed_lines, held_by, how, mark_of}
 use Rattle.hpx_top.specs.Parts.{IsHandled, part_text}
 use Rattle.hpx_top.specs.Reader.{Reading, lines_left, input_left, bytes_left, TakesLine, TakesLong, TakesQuit, IsAtEnd, IsFull}
-use Rattle.hpx_top.specs.Session.{lines_fed, Tells, IsFed, HasBegun, HasFed, HasOpened, IsOpened, WritesFront, IsTold, Telling, ByJournal, HandsOut, IsServing, IsServed, IsServedUpTo, IsLeft, IsCut, IsCutAt, IsCutIn, IsCutAtOpening, IsOver, IsToldUp, IsUnderWay, IsStopped, AllButOne}
+use Rattle.hpx_top.specs.Session.{lines_fed, Tells, IsFed, HasBegun, HasFed, HasOpened, IsOpened, WritesFront, IsTold, Telling, ByJournal, HandsOut, IsServing, IsServed, IsServedUpTo, IsLeft, IsCut, IsCutAt, IsCutIn, IsCutAtOpening, IsOver, IsToldUp, IsUnderWay, IsStopped, AllButOne, TellsNone}
 use Rattle.hpx_top.proofs.LineLemmas.{followed_twice, preceded_nothing, preceded_twice, front_all, goes_on_more, goes_on_less, long_goes_on, lines_fed_append, block_line, none_fed}
 use Rattle.hpx_top.proofs.PartLemmas.{does_fed, fed_append, held_append, told_cuts, told_grown, told_line, told_more}
 
@@ -162,6 +162,7 @@ cut_here {console} {r} {held} {cuts} most all before now mid reading left entrie
     journal = s.fed_are ∙ ap (fed console) (sym (append-nil s.lines));
     text = s.text;
     told = (s.told, s.count);
+    ended = λ none. s.last;
     written = held_prompt before now mid (commands console) s.text prompt s.written prompted;
   },
   sym s.count,
@@ -195,6 +196,7 @@ cut_line {console} {r} {held} {cuts} {cuts'} {line} all before now mid later rea
         journal = same ∙ ap (fed console) (sym (append-nil s.lines));
         text = s.text;
         told = (told, count);
+        ended = λ none. absurd (omega (arith, none));
         written = written;
       },
       sym s.count,
@@ -209,6 +211,7 @@ cut_line {console} {r} {held} {cuts} {cuts'} {line} all before now mid later rea
         journal = more;
         text = s.text;
         told = (told, count);
+        ended = λ none. absurd (omega (arith, none));
         written = written;
       },
       sym s.count,
@@ -348,9 +351,9 @@ let_go_written {console} {r} {ended} {held} {cuts} {all} {before} {now} {old} mo
 -- ---- what a failed write leaves
 
 -- the first text was not written whole
-pub under_start : {console : UserConsole} (telling : Telling) (all : Option (List (List ℕ))) (before now : Option (List ℕ)) (entries : List Entry) → entries ≡ [] → WritesFront (commands console) before now
-    → IsUnderWay console telling all before entries now
-under_start {console} telling all before now entries empty w = record {
+pub under_start : {console : UserConsole} (telling : Telling) (all : Option (List (List ℕ))) (before now : Option (List ℕ)) (entries : List Entry) → entries ≡ [] → TellsNone telling
+    → WritesFront (commands console) before now → IsUnderWay console telling all before entries now
+under_start {console} telling all before now entries empty none w = record {
   lines = [];
   next = [];
   left = all;
@@ -359,7 +362,7 @@ under_start {console} telling all before now entries empty w = record {
   journal = inr (ap lines_fed empty, refl);
   text = w.front;
   written = w.held;
-  theirs = inr (inr (refl, refl, w.begins));
+  theirs = inr (inr (refl, refl, none, w.begins));
   almost = inr (refl, refl);
 }
 
@@ -550,7 +553,7 @@ under_all {console} {r} {ended} {held} {cuts} all before now later old new o unf
       almost = inl (almost_all o.lines o.text prompt told);
     }
 
-pub under_opening : {console : UserConsole} (telling : Telling) (all : Option (List (List ℕ))) (before now : Option (List ℕ)) (entries : List Entry) → IsCutAtOpening console before entries now
+pub under_opening : {console : UserConsole} (telling : Telling) (all : Option (List (List ℕ))) (before now : Option (List ℕ)) (entries : List Entry) → IsCutAtOpening console telling before entries now
     → IsUnderWay console telling all before entries now
 under_opening {console} telling all before now entries c = record {
   lines = [];
@@ -561,7 +564,7 @@ under_opening {console} telling all before now entries c = record {
   journal = opened c.journal;
   text = commands console;
   written = c.written;
-  theirs = inr (inr (refl, refl, front_all (commands console)));
+  theirs = inr (inr (refl, refl, c.none, front_all (commands console)));
   almost = inr (refl, refl);
 }
   where

@@ -11,7 +11,7 @@ use Rattle.hpx_top.specs.declared.consoles.UserConsole.{UserConsole}
 use Rattle.hpx_top.specs.declared.consoles.UserConsole.TheVariants.{Accumulator}
 use Rattle.hpx_top.specs.Texts.{commands, fed, held_behind}
 use Rattle.hpx_top.specs.Reader.{behind}
-use Rattle.hpx_top.specs.Session.{Telling, TellsAll, TellsUp, lines_fed, HasFed, AllButOne, IsTheirs, IsOfAll}
+use Rattle.hpx_top.specs.Session.{Telling, TellsAll, TellsUp, TellsNone, EndsThere, lines_fed, HasFed, AllButOne, IsTheirs, IsOfAll}
 
 -- the lines of the input were handled, up to its end or to `quit`, and the whole text was written
 pub record IsWhole (console : UserConsole) (telling : Telling) (input : List ℕ) (entries : List Entry) (old new : Option (List ℕ)) : Type 0 where
@@ -21,7 +21,7 @@ pub record IsWhole (console : UserConsole) (telling : Telling) (input : List ℕ
   pub is : new ≡ followed old (commands console ++ text)
 
 -- The first lines of the input were handled, and the text is theirs, with the prompt behind it. Of the next lines at most so
--- many were begun.
+-- many were begun; if none, the journal ends with those that were handled.
 pub record IsBrokenOff (console : UserConsole) (telling : Telling) (most : ℕ) (input : List ℕ) (entries : List Entry) (old new : Option (List ℕ)) : Type 0 where
   pub handled : List (List ℕ)
   pub next : List (List ℕ)
@@ -31,6 +31,7 @@ pub record IsBrokenOff (console : UserConsole) (telling : Telling) (most : ℕ) 
   pub lines : lines_fed entries ≡ fed console (handled ++ next)
   pub text : List ℕ
   pub told : TellsAll console telling entries handled text
+  pub ended : most ≡ 0 → EndsThere console telling entries handled text told
   pub is : new ≡ followed old (commands console ++ (text ++ prompt))
 
 -- The first lines of the input were handled, and the text is theirs, with the prompt behind it. The next line, which is not
@@ -55,9 +56,11 @@ pub record IsBrokenAtEnd (console : UserConsole) (telling : Telling) (input : Li
   pub is : new ≡ followed old (commands console ++ (text ++ prompt))
 
 -- Behind the first text the accumulator was to be made: the line for it was to be fed, or was fed and what follows from it was to
--- be done. No line of the input was handled. Only the accumulator's console makes one.
-pub record IsBrokenAtOpening (console : UserConsole) (entries : List Entry) (old new : Option (List ℕ)) : Type 0 where
+-- be done. Nothing of the input was read, and no line handled. Only the accumulator's console makes one.
+pub record IsBrokenAtOpening (console : UserConsole) (telling : Telling) (input : List ℕ) (left : Option (List ℕ)) (entries : List Entry) (old new : Option (List ℕ)) : Type 0 where
   pub only : console ≡ Accumulator
+  pub unread : left ≡ Some input
+  pub none : TellsNone telling
   pub lines : (lines_fed entries ≡ []) ⊎ (lines_fed entries ≡ opening ∷ [])
   pub text : new ≡ followed old (commands console)
 
@@ -74,7 +77,7 @@ pub record IsBegun (console : UserConsole) (telling : Telling) (input : List ℕ
   pub is : new ≡ followed old text
   pub theirs : IsTheirs console telling entries handled text
       ⊎ (IsOfAll console telling entries handled text × (next ≡ []) × (later ≡ []))
-      ⊎ ((handled ≡ []) × (next ≡ []) × IsFront text (commands console))
+      ⊎ ((handled ≡ []) × (next ≡ []) × TellsNone telling × IsFront text (commands console))
   pub almost : AllButOne console telling entries handled text ⊎ ((handled ≡ []) × (next ≡ []))
 
 -- The first bytes of the input were read, as many as the count of the source rose by, and the others are left.
@@ -122,18 +125,19 @@ pub record IsFullBehind (lines : ℕ) (input : List ℕ) (left : Option (List �
 abbrev pub IsShort : UserConsole → Telling → List ℕ → Option (List ℕ) → List Entry → Option (List ℕ) → Option (List ℕ) → Type 0
 IsShort console telling input left entries old new =
     ((b : IsBrokenOff console telling 1 input entries old new) × (IsFullBehind (length b.handled) input left → ⊥))
-    ⊎ IsBrokenAtEnd console telling input entries old new ⊎ (IsBrokenAtOpening console entries old new × (left ≡ Some input))
+    ⊎ IsBrokenAtEnd console telling input entries old new ⊎ IsBrokenAtOpening console telling input left entries old new
 
 -- how a session was broken off where a turn was refused: in a line, behind all lines, or where the accumulator is made
-abbrev pub IsBroken : UserConsole → Telling → List ℕ → List Entry → Option (List ℕ) → Option (List ℕ) → Type 0
-IsBroken console telling input entries old new =
-    IsBrokenIn console telling input entries old new ⊎ IsBrokenAtEnd console telling input entries old new ⊎ IsBrokenAtOpening console entries old new
+abbrev pub IsBroken : UserConsole → Telling → List ℕ → Option (List ℕ) → List Entry → Option (List ℕ) → Option (List ℕ) → Type 0
+IsBroken console telling input left entries old new =
+    IsBrokenIn console telling input entries old new ⊎ IsBrokenAtEnd console telling input entries old new ⊎ IsBrokenAtOpening console telling input left entries old new
 
 -- how a session was broken off: at a write anywhere, otherwise behind a prompt, or where a turn was refused; and for want of memory
-abbrev pub IsEndedBy : UserConsole → SessionFault → Telling → List ℕ → List Entry → Option (List ℕ) → Option (List ℕ) → Type 0
-IsEndedBy console Write telling input entries old new = IsBegun console telling input entries old new
-IsEndedBy console Read telling input entries old new = IsBrokenOff console telling 0 input entries old new
-IsEndedBy console InputFull telling input entries old new = IsBrokenOff console telling 0 input entries old new
-IsEndedBy console OutOfMemory telling input entries old new =
-    IsBrokenOff console telling 1 input entries old new ⊎ IsBrokenAtEnd console telling input entries old new ⊎ IsBrokenAtOpening console entries old new
-IsEndedBy console _ telling input entries old new = IsBroken console telling input entries old new
+abbrev pub IsEndedBy : UserConsole → SessionFault → Telling → List ℕ → Option (List ℕ) → List Entry → Option (List ℕ) → Option (List ℕ) → Type 0
+IsEndedBy console Write telling input left entries old new = IsBegun console telling input entries old new
+IsEndedBy console Read telling input left entries old new = IsBrokenOff console telling 0 input entries old new
+IsEndedBy console InputFull telling input left entries old new = IsBrokenOff console telling 0 input entries old new
+IsEndedBy console OutOfMemory telling input left entries old new =
+    IsBrokenOff console telling 1 input entries old new ⊎ IsBrokenAtEnd console telling input entries old new
+    ⊎ IsBrokenAtOpening console telling input left entries old new
+IsEndedBy console _ telling input left entries old new = IsBroken console telling input left entries old new

@@ -86,7 +86,7 @@ pub record HasServed (console : UserConsole) (telling : Telling) (status : ℕ) 
   pub read_up : status ≡ 0 → IsReadUp input z.left
   pub begun : IsBegun console telling input (entries_in world) x.text z.text
   pub between_lines : (status ≡ 2) ⊎ (status ≡ 9) → IsBrokenOff console telling 0 input (entries_in world) x.text z.text
-  pub refused : (status ≡ 4) ⊎ (status ≡ 5) → IsBroken console telling input (entries_in world) x.text z.text
+  pub refused : (status ≡ 4) ⊎ (status ≡ 5) → IsBroken console telling input z.left (entries_in world) x.text z.text
   pub short : status ≡ 6 → IfSome world (λ w. IsShort console telling input z.left w.journal.entries x.text z.text)
   pub read_on : status ≡ 2 → (count : ℕ) × IsReadOn count input z.left
   pub full : status ≡ 9 → IsInputFull input z.left
@@ -97,13 +97,13 @@ pub record BeginsPlainly (console : UserConsole) (n : ℕ) (input : List ℕ) (o
   pub is : new ≡ followed old text
   pub begins : IsFront text (commands console ++ (lines_text console n (lines_of input) ++ prompt))
 
--- no line of the input is one that is not fed though it is not too long
+-- each line of the input is fed, too long, or a `drain`
 abbrev pub OwnsNone : UserConsole → List ℕ → Type 0
 OwnsNone console input = list_any (λ line. is_own (how console line)) (lines_of input) ≡ false
 
 -- What was done of a task at n localities: the console served its input, and the journal and its lengths behind each line tell what it
 -- wrote; an application that computes read nothing, and what was written is what the journal printed. Where no ask for credit was
--- refused, and each line was fed, that is what one plain space says, or what was to be computed.
+-- refused, and no line is a `hold`, `turn`, `audit` or `counter`, that is what one plain space says, or what was to be computed.
 pub record HasDone (task : Task) (n : ℕ) (p : Profile) (status : ℕ) (cuts : List ℕ) (world : Option Places) (x z : Ports) : Type 0 where
   pub shown : (line : List ℕ) → task_line task ≡ Some line
       → HasComputed line (prints_of (entries_in world)) status (entries_in world) x.text z.text

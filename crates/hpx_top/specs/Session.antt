@@ -154,6 +154,16 @@ abbrev pub TellsAll : UserConsole → Telling → List Entry → List (List ℕ)
 TellsAll console (ByJournal r cuts) entries lines text = IsTold console r cuts entries lines text × (length cuts ≡ length lines)
 TellsAll console (ByOneSpace n) entries lines text = text ≡ lines_text console n lines
 
+-- and behind them the journal has no more
+abbrev pub EndsThere : (console : UserConsole) (telling : Telling) (entries : List Entry) (lines : List (List ℕ)) (text : List ℕ) → TellsAll console telling entries lines text → Type 0
+EndsThere console (ByJournal r cuts) entries lines text t = t.0.later ≡ []
+EndsThere console (ByOneSpace n) entries lines text t = Unit {0}
+
+-- no line was handled
+abbrev pub TellsNone : Telling → Type 0
+TellsNone (ByJournal r cuts) = cuts ≡ []
+TellsNone (ByOneSpace n) = Unit {0}
+
 -- the text of all lines with the last prompt, and in a hold what was printed behind it, once it was let go
 pub record IsToldUp (console : UserConsole) (r : Rules) (cuts : List ℕ) (entries : List Entry) (lines : List (List ℕ)) (text : List ℕ) : Type 0 where
   pub body : List ℕ
@@ -195,7 +205,8 @@ pub record IsHandling (console : UserConsole) (r : Rules) (bytes : Option (List 
   pub serving : IsServing console r all before reading left held cuts entries now
   pub behind_is : input_left reading left ≡ option_map (behind (length cuts)) bytes
 
--- After a prompt: the text is that of the lines that were handled. Of the lines behind them so many may have been begun.
+-- After a prompt: the text is that of the lines that were handled. Of the lines behind them so many may have been begun; if none, the
+-- journal ends with those that were handled.
 pub record IsCut (console : UserConsole) (telling : Telling) (most : ℕ) (all : Option (List (List ℕ))) (before : Option (List ℕ)) (entries : List Entry) (now : Option (List ℕ)) : Type 0 where
   pub lines : List (List ℕ)
   pub next : List (List ℕ)
@@ -205,6 +216,7 @@ pub record IsCut (console : UserConsole) (telling : Telling) (most : ℕ) (all :
   pub journal : lines_fed entries ≡ fed console (lines ++ next)
   pub text : List ℕ
   pub told : TellsAll console telling entries lines text
+  pub ended : most ≡ 0 → EndsThere console telling entries lines text told
   pub written : now ≡ followed before (commands console ++ (text ++ prompt))
 
 -- so many were handled
@@ -225,8 +237,9 @@ pub record IsCutIn (console : UserConsole) (telling : Telling) (all : Option (Li
 
 -- Behind the first text, before the first prompt: the accumulator is to be made, and the line for it may have been fed. Only its
 -- console makes one.
-pub record IsCutAtOpening (console : UserConsole) (before : Option (List ℕ)) (entries : List Entry) (now : Option (List ℕ)) : Type 0 where
+pub record IsCutAtOpening (console : UserConsole) (telling : Telling) (before : Option (List ℕ)) (entries : List Entry) (now : Option (List ℕ)) : Type 0 where
   pub only : console ≡ Accumulator
+  pub none : TellsNone telling
   pub journal : (lines_fed entries ≡ []) ⊎ (lines_fed entries ≡ opening ∷ [])
   pub written : now ≡ followed before (commands console)
 
@@ -276,7 +289,7 @@ pub record IsUnderWay (console : UserConsole) (telling : Telling) (all : Option 
   pub written : now ≡ followed before text
   pub theirs : IsTheirs console telling entries lines text
       ⊎ (IsOfAll console telling entries lines text × (next ≡ []) × IfSome left (λ others. before_quit others ≡ []))
-      ⊎ ((lines ≡ []) × (next ≡ []) × IsFront text (commands console))
+      ⊎ ((lines ≡ []) × (next ≡ []) × TellsNone telling × IsFront text (commands console))
   pub almost : AllButOne console telling entries lines text ⊎ ((lines ≡ []) × (next ≡ []))
 
 -- the bytes that may be read were read, and behind the lines that were handled they hold no whole line

@@ -3,9 +3,10 @@ use Rattle.std.specs.Prelude.{ℕ, Bool, true, false, List, [], ◌∷◌, ◌++
 use Rattle.app_console.specs.declared.table.Console.{Console}
 use Rattle.app_console.specs.declared.table.Console.TheVariants as Tables
 use Rattle.app_console.specs.Commands.{help_of}
+use Rattle.app_console.specs.Console.{prompt}
 use Rattle.app_console.specs.Lines.{is_long, opening}
-use Rattle.app_console.specs.Plain.{Plain, at_boot, opened}
-use Rattle.app_console.specs.Text.{lines_text as lines_text_in}
+use Rattle.app_console.specs.Plain.{Plain, at_boot, line_end, opened}
+use Rattle.app_console.specs.Text.{too_long}
 use Rattle.hpx_own.specs.Lines.{handled_as}
 use Rattle.hpx_own.specs.declared.lines.Handled.{Handled}
 use Rattle.hpx_own.specs.declared.lines.Handled.TheVariants.{Fed, Hold, Drain}
@@ -36,10 +37,6 @@ start_of Space n = at_boot n
 abbrev pub commands : UserConsole → List ℕ
 commands console = help_of (table_of console)
 
--- what one plain space, which begins as the console's does, says behind it for lines: for each a prompt, and what it prints
-abbrev pub lines_text : UserConsole → ℕ → List (List ℕ) → List ℕ
-lines_text console n lines = lines_text_in (table_of console) n (start_of console n) lines
-
 -- ---- how a line is handled
 
 -- whether a console has lines that are not fed: `hold`, `turn`, `drain`, `audit` and `counter`
@@ -61,11 +58,37 @@ abbrev pub is_fed : How → Bool
 is_fed (Typed Fed) = true
 is_fed _ = false
 
--- it is not fed, though it is not too long
+-- what it does or prints no plain space tells: it is a `hold`, a `turn`, an `audit` or a `counter`
 abbrev pub is_own : How → Bool
 is_own TooLong = false
 is_own (Typed Fed) = false
+is_own (Typed Drain) = false
 is_own _ = true
+
+-- ---- what one plain space says
+
+-- for a line, by how it is handled: what it prints where it is fed; for a `drain` nothing, as nothing is held back
+abbrev pub said_for : How → Console → ℕ → Plain → List ℕ → List ℕ
+said_for TooLong table n space line = too_long
+said_for (Typed Fed) table n space line = (line_end table n space line).text
+said_for _ table n space line = []
+
+-- what is left of it: only a line that is fed changes it
+abbrev pub left_by : How → Console → ℕ → Plain → List ℕ → Plain
+left_by (Typed Fed) table n space line = (line_end table n space line).plain
+left_by _ table n space line = space
+
+-- for lines: for each a prompt, and what is said for it
+abbrev pub said : UserConsole → ℕ → Plain → List (List ℕ) → List ℕ
+said console n space [] = []
+said console n space (line ∷ lines) =
+    prompt ++ (said_for (how console line) (table_of console) n space line ++ said console n (left_by (how console line) (table_of console) n space line) lines)
+
+-- where it begins as the console's does
+abbrev pub lines_text : UserConsole → ℕ → List (List ℕ) → List ℕ
+lines_text console n lines = said console n (start_of console n) lines
+
+-- ---- line after line
 
 -- whether delivery is held back behind it, by whether it was before
 abbrev pub held_by : Bool → How → Bool

@@ -237,7 +237,7 @@ fn serve_lines<S: Source, K: Sink, F: Fabric>(
     ensures limit { S.taken source.new ≤ S.taken source.old + 67108864 }
     ensures read_up { (input : _) → S.left source.old ≡ Some input → OnOk result (IsReadUp input (S.left source.new)) }
     ensures ended { (input : _) → S.left source.old ≡ Some input →
-        IfErr result (λ fault. IsEndedBy console fault (ByJournal (rules world.old) progress.new.cuts.items) input world.new.journal.entries (K.held sink.old) (K.held sink.new)) }
+        IfErr result (λ fault. IsEndedBy console fault (ByJournal (rules world.old) progress.new.cuts.items) input (S.left source.new) world.new.journal.entries (K.held sink.old) (K.held sink.new)) }
     ensures short { (input : _) → S.left source.old ≡ Some input → result ≡ Err SessionFault.OutOfMemory →
         IsShort console (ByJournal (rules world.old) progress.new.cuts.items) input (S.left source.new) world.new.journal.entries (K.held sink.old) (K.held sink.new) }
     ensures begun { (input : _) → S.left source.old ≡ Some input →

@@ -3,7 +3,7 @@ use Rattle.hpx_top.proofs.RunLemmas.{cause_none, ended_of, lawful_of, served_non
 use Rattle.hpx_top.proofs.run.serve_all.Goals as goal
 
 pub returns-in-Err-clause-served : goal.returns-in-Err-clause-served
-returns-in-Err-clause-served g c = λ input h. served_none _ _ input _ refl h
+returns-in-Err-clause-served g c = λ input h. served_none _ _ input _ refl c.new.ensures.items h
 
 pub returns-in-Err-clause-cause : goal.returns-in-Err-clause-cause
 returns-in-Err-clause-cause g c = cause_none _ _ refl

@@ -17,10 +17,10 @@ pub returns-in_err-write-clause-ended : goal.returns-in_err-write-clause-ended
 returns-in_err-write-clause-ended g c =
     let all = all_lines (g.S.Source.left c.args.source.now) in
     λ input h. if_err_from c.from_residual.result c.in_err-write.field-0.0 _ c.from_residual.ensures.1
-    (ended_from c.args.console _ _ c.in_err-write.field-0.0 input (g.S.Source.left c.args.source.now) c.args.world.now.journal.entries
+    (ended_from c.args.console _ _ c.in_err-write.field-0.0 input (g.S.Source.left c.args.source.now) _ c.args.world.now.journal.entries
     (g.K.Sink.held c.args.sink.now) (g.K.Sink.held c.write.new.sink) h
     (cut_write c.in_err-write.field-0.0 (ByJournal (rules c.args.world.now) c.args.progress.now.cuts.items) all _ _ _ c.in_err-write.ensures.cause.0
-    (under_start _ all (g.K.Sink.held c.args.sink.now) (g.K.Sink.held c.write.new.sink) c.args.world.now.journal.entries c.requires.empty (of_text c.commands.ensures c.in_err-write.ensures.front))))
+    (under_start _ all (g.K.Sink.held c.args.sink.now) (g.K.Sink.held c.write.new.sink) c.args.world.now.journal.entries c.requires.empty c.requires.first (of_text c.commands.ensures c.in_err-write.ensures.front))))
 
 pub returns-in_err-write-clause-begun : goal.returns-in_err-write-clause-begun
 returns-in_err-write-clause-begun g c =
@@ -28,7 +28,7 @@ returns-in_err-write-clause-begun g c =
     λ input h. begun_from c.in_err-write.field-0.0 input (g.S.Source.left c.args.source.now) c.args.world.now.journal.entries
     (g.K.Sink.held c.args.sink.now) (g.K.Sink.held c.write.new.sink) h
     (cut_write c.in_err-write.field-0.0 (ByJournal (rules c.args.world.now) c.args.progress.now.cuts.items) all _ _ _ c.in_err-write.ensures.cause.0
-    (under_start _ all (g.K.Sink.held c.args.sink.now) (g.K.Sink.held c.write.new.sink) c.args.world.now.journal.entries c.requires.empty (of_text c.commands.ensures c.in_err-write.ensures.front)))
+    (under_start _ all (g.K.Sink.held c.args.sink.now) (g.K.Sink.held c.write.new.sink) c.args.world.now.journal.entries c.requires.empty c.requires.first (of_text c.commands.ensures c.in_err-write.ensures.front)))
 
 pub returns-in_err-write-clause-few : goal.returns-in_err-write-clause-few
 returns-in_err-write-clause-few g c = omega (arith, ap length c.requires.first)
@@ -39,18 +39,18 @@ returns-in_err-open-clause-few g c = omega (arith, ap length c.requires.first)
 -- the accumulator was not made
 pub returns-in_err-open-clause-ended : goal.returns-in_err-open-clause-ended
 returns-in_err-open-clause-ended g c =
-    let cut = cut_opening (g.K.Sink.held c.args.sink.now) (g.K.Sink.held c.write.new.sink) _ _ c.in_err-open.ensures.only c.requires.empty c.in_err-open.ensures.once (c.in_ok-write.ensures.held ∙ ap (followed (g.K.Sink.held c.args.sink.now)) c.commands.ensures) in
+    let cut = cut_opening (ByJournal (rules c.args.world.now) c.args.progress.now.cuts.items) (g.K.Sink.held c.args.sink.now) (g.K.Sink.held c.write.new.sink) _ _ c.in_err-open.ensures.only c.requires.first c.requires.empty c.in_err-open.ensures.once (c.in_ok-write.ensures.held ∙ ap (followed (g.K.Sink.held c.args.sink.now)) c.commands.ensures) in
     λ input h. if_err_from c.from_residual-in_err-open.result c.in_err-open.field-0.0 _ c.from_residual-in_err-open.ensures.1
-    (ended_opening _ c.in_err-open.field-0.0 input _ (g.K.Sink.held c.args.sink.now) (g.K.Sink.held c.write.new.sink) c.in_err-open.ensures.other cut)
+    (ended_opening _ c.in_err-open.field-0.0 input (g.S.Source.left c.args.source.now) _ (g.K.Sink.held c.args.sink.now) (g.K.Sink.held c.write.new.sink) c.in_err-open.ensures.other h cut)
 
 pub returns-in_err-open-clause-begun : goal.returns-in_err-open-clause-begun
 returns-in_err-open-clause-begun g c =
-    let cut = cut_opening (g.K.Sink.held c.args.sink.now) (g.K.Sink.held c.write.new.sink) _ _ c.in_err-open.ensures.only c.requires.empty c.in_err-open.ensures.once (c.in_ok-write.ensures.held ∙ ap (followed (g.K.Sink.held c.args.sink.now)) c.commands.ensures) in
+    let cut = cut_opening (ByJournal (rules c.args.world.now) c.args.progress.now.cuts.items) (g.K.Sink.held c.args.sink.now) (g.K.Sink.held c.write.new.sink) _ _ c.in_err-open.ensures.only c.requires.first c.requires.empty c.in_err-open.ensures.once (c.in_ok-write.ensures.held ∙ ap (followed (g.K.Sink.held c.args.sink.now)) c.commands.ensures) in
     λ input h. begun_opening _ input _ (g.K.Sink.held c.args.sink.now) (g.K.Sink.held c.write.new.sink) cut
 
 pub returns-in_err-open-clause-short : goal.returns-in_err-open-clause-short
 returns-in_err-open-clause-short g c =
-    let cut = cut_opening (g.K.Sink.held c.args.sink.now) (g.K.Sink.held c.write.new.sink) _ _ c.in_err-open.ensures.only c.requires.empty c.in_err-open.ensures.once (c.in_ok-write.ensures.held ∙ ap (followed (g.K.Sink.held c.args.sink.now)) c.commands.ensures) in
+    let cut = cut_opening (ByJournal (rules c.args.world.now) c.args.progress.now.cuts.items) (g.K.Sink.held c.args.sink.now) (g.K.Sink.held c.write.new.sink) _ _ c.in_err-open.ensures.only c.requires.first c.requires.empty c.in_err-open.ensures.once (c.in_ok-write.ensures.held ∙ ap (followed (g.K.Sink.held c.args.sink.now)) c.commands.ensures) in
     λ input h e. short_opening _ input (g.S.Source.left c.args.source.now) _ (g.K.Sink.held c.args.sink.now) (g.K.Sink.held c.write.new.sink) h cut
 
 -- nothing was read
@@ -117,7 +117,7 @@ returns-in_err-serve_line-clause-ended g c =
     λ input h.
     let cut = rw (same_rules c.args.world.now c.loop-reader.world c.loop-reader.invariant.count c.loop-reader.invariant.profile) at (c.in_err-serve_line.ensures.err _ _ serving) in
     if_err_from c.from_residual-in_err-serve_line.result c.in_err-serve_line.field-0.0 _ c.from_residual-in_err-serve_line.ensures.1
-    (ended_from c.args.console _ _ c.in_err-serve_line.field-0.0 input (g.S.Source.left c.args.source.now) _ _ _ h cut)
+    (ended_from c.args.console _ _ c.in_err-serve_line.field-0.0 input (g.S.Source.left c.args.source.now) _ _ _ _ h cut)
 
 pub returns-in_err-serve_line-clause-begun : goal.returns-in_err-serve_line-clause-begun
 returns-in_err-serve_line-clause-begun g c =
@@ -220,7 +220,7 @@ pub returns-clause-ended : goal.returns-clause-ended
 returns-clause-ended g c =
     let serving = rw (← same_rules c.args.world.now c.loop-reader.world c.loop-reader.invariant.count c.loop-reader.invariant.profile) at c.loop-reader.invariant.handling.serving in
     let over = rw (same_rules c.args.world.now c.loop-reader.world c.loop-reader.invariant.count c.loop-reader.invariant.profile) at (c.in_ok-serve_line.ensures.over (ap (λ b. Ok b) c.if-branch.false) _ _ serving) in
-    λ input h. ended_result c.let_go.result input (g.S.Source.left c.args.source.now) _ _ h over c.let_go.ensures.unfed c.let_go.ensures.still c.let_go.ensures.err
+    λ input h. ended_result c.let_go.result input (g.S.Source.left c.args.source.now) _ _ _ h over c.let_go.ensures.unfed c.let_go.ensures.still c.let_go.ensures.err
 
 pub returns-clause-short : goal.returns-clause-short
 returns-clause-short g c =
