@@ -1,7 +1,7 @@
 -- What holds of a site goes on to hold.
-use Rattle.std.proofs.Common.{ℕ, ◌≡◌, ◌∙◌, Option, Some, None, Result, Ok, Err, IfSome, IfErr, is_some, false, length, refl, sym, subst, ap₂}
+use Rattle.std.proofs.Common.{ℕ, Bool, [], ◌≡◌, ◌∙◌, ◌⊎◌, Option, Some, None, Result, Ok, Err, IfSome, IfErr, is_some, false, inl, inr, length, refl, sym, subst, ap₂}
 use Rattle.hpx_value.specs.declared.acts.Acts.{Ghosts}
-use Rattle.std.specs.Result.{result_err}
+use Rattle.std.specs.Result.{IsErrAnd, result_err}
 use Rattle.hpx_journal.specs.Weights.{HasRoom}
 use Rattle.hpx_ports.specs.Faults.{Rose}
 use Rattle.hpx_steps.specs.Rest.{rules_of}
@@ -10,7 +10,8 @@ use Rattle.hpx_world.specs.declared.turns.WorldFault.TheVariants as faults
 use Rattle.hpx_world.specs.Away.{IsCarrying}
 use Rattle.hpx_world.specs.Places.{Places, rules_in}
 use Rattle.hpx_world.specs.declared.turns.Choice.{Choice}
-use Rattle.hpx_world.specs.Refusals.{CountsFaults, CanCome, FeedsNoLine, Refused, RefusedDrain}
+use Rattle.hpx_world.specs.declared.turns.Choice.TheVariants as choices
+use Rattle.hpx_world.specs.Refusals.{CountsFaults, CanCome, FeedsNoLine, Refused, RefusedDrain, RefusedStep}
 use Rattle.hpx_world.specs.Sound.{Meaning}
 use Rattle.hpx_world.specs.Stages.{Stage}
 use Rattle.hpx_world.specs.Steps.{IsIdle, IsUnfed}
@@ -114,3 +115,47 @@ drained act_of was x z h w (Err f) counts stops never = steps_stop act_of was x 
 -- where steps end there is room
 pub idle_room : (x z : Stage) → IsIdle x z → HasRoom z.entries
 idle_room x z idle = subst (λ es. HasRoom es) (sym idle.same.journal) idle.room
+
+-- ---- a few steps, and what follows them
+
+-- what holds since a site that goes on, which was seen before, holds since then
+pub held_then : {A : Type 0} {g : Ghosts A} (act_of : Meaning) (was x z : Seen) (stop : Option (WorldFault A g)) → Held {A = A} {g = g} act_of was x None → Held act_of x z stop → Held act_of was z stop
+held_then {A} {g} act_of was x z stop h k = record {
+  localities = k.localities ∙ h.localities;
+  profile = k.profile ∙ h.profile;
+  unfed = unfed_then _ _ _ h.unfed k.unfed;
+  carrying = λ c. k.carrying (h.carrying c);
+  still = λ q. k.still q ∙ h.still tt;
+  cause = cause stop k.cause;
+  room = k.room;
+  never = λ c. subst (λ r. IfSome stop (CanCome r)) (same_rules act_of x.world was.world h.localities h.profile) (k.never (h.carrying c));
+}
+  where
+    cause : (f : Option (WorldFault A g)) → IfSome f (IsCause x z) → IfSome f (IsCause was z)
+    cause None c = tt
+    cause (Some f) c = since was x z (h.still tt) f c
+
+-- what holds of a fault holds of the answer that hands it on
+pub handed_on : {T F : Type 0} (P : Option F → Type 0) (r : Result T F) (f : F) → IsErrAnd r (λ y. y ≡ f) → P (Some f) → P (result_err r)
+handed_on P (Ok x) f h p = absurd h
+handed_on P (Err y) f h p = subst (λ o. P (Some o)) (sym h) p
+
+-- a step was refused as steps are, or as a Take is
+step_refused : {A : Type 0} {g : Ghosts A} (act_of : Meaning) (f : WorldFault A g) (x z : Stage) → RefusedStep f x z → RefusedDrain act_of f x z ⊎ Refused {A = A} {g = g} choices.Take f x z
+step_refused act_of (faults.EarlyEnd s t) x z h = inr (h.0, h.2)
+step_refused act_of faults.Fabric x z h = inl (record { last = x; goes = record { between = []; steps = refl }; thus = h })
+step_refused act_of (faults.JournalFull e w job_back) x z h = inl (record { last = x; goes = record { between = []; steps = refl }; thus = h })
+step_refused act_of (faults.BadFrame to place why) x z h = inl (record { last = x; goes = record { between = []; steps = refl }; thus = h })
+step_refused act_of (faults.Strange to rule object kept) x z h = inl (record { last = x; goes = record { between = []; steps = refl }; thus = h })
+step_refused act_of (faults.OutOfMemory job_back) x z h = inl (record { last = x; goes = record { between = []; steps = refl }; thus = h })
+step_refused act_of (faults.NotRun job) x z h = inl (record { last = x; goes = record { between = []; steps = refl }; thus = h })
+
+-- one step, refused or not, of a site that goes on
+pub stepped : {A : Type 0} {g : Ghosts A} (act_of : Meaning) (was x z : Seen) → Held {A = A} {g = g} act_of was x None → Went act_of x z
+    → (r : Result Bool (WorldFault A g)) → CountsFaults r x.faults z.faults → IfErr r (λ f. RefusedStep f (stage_of x) (stage_of z))
+    → (Carries act_of x → IfErr r (CanCome (rules_in act_of x.world))) → Held act_of was z (result_err r)
+stepped act_of was x z h w (Ok b) counts stops never = goes_on act_of was x z None refl h w counts
+stepped act_of was x z h w (Err f) counts stops never = elim (step_refused act_of f (stage_of x) (stage_of z) stops) [
+  | inl steps ↦ steps_stop act_of was x z None refl h w f steps counts never
+  | inr take ↦ turn_stops act_of was x z None refl h w choices.Take tt f take counts never
+]

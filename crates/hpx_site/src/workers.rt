@@ -32,6 +32,9 @@ use std::thread::Threads;
 /// The greatest number of a worker.
 const LAST: usize = 63;
 
+/// How many steps the caller makes alone before there are workers.
+const ALONE: u32 = 64;
+
 /// What the workers share.
 #[derive(Drop)]
 struct Shared<'s, 'b, 'w, 'f, A: Acts + Copy, F: Fabric, E: Past, G> {
@@ -252,8 +255,52 @@ fn work_in<A: Acts + Copy + Send + Sync, F: Fabric, G: Gate, R: Threads + Wait +
     stop
 }
 
-/// Lets a world be drained by so many threads: they take jobs out, run them with no lock held and bring their outcomes back, and
-/// between jobs they move messages on. Where no thread is to be had, or no memory for their hands, the caller does that work.
+/// A few steps of the caller. True where none can be made any more.
+#[tactic(auto, using(crate::proofs::Helds::held_first))]
+fn step_alone<A: Acts + Copy, F: Fabric>(
+    alloc: Global,
+    world: &mut World<A>,
+    fabric: &mut F,
+) -> Result<bool, WorldFault<A>>
+    ensures held { Held A.act_of (seen world.old (F.flight fabric.old) (F.trace fabric.old) (F.faults fabric.old))
+        (seen world.new (F.flight fabric.new) (F.trace fabric.new) (F.faults fabric.new)) (result_err result) }
+{
+    for _step in 0..ALONE {
+        if !world.step(alloc, fabric)? {
+            return Ok(true);
+        }
+    }
+    Ok(false)
+}
+
+/// Several workers on a world, unless it comes to rest by a few steps of the caller: why it stands still, if it does. One worker is
+/// none, since the caller drains.
+#[tactic(auto, using(crate::proofs::Helds::held_first))]
+fn work_some<A: Acts + Copy + Send + Sync, F: Fabric, G: Gate, R: Threads + Wait + Sync>(
+    rt: &R,
+    alloc: Global,
+    world: &mut World<A>,
+    fabric: &mut F,
+    threads: u32,
+    gate: &G,
+) -> Option<WorldFault<A>>
+    requires threads { (0 < threads) × (threads ≤ 64) }
+    ensures held { Held A.act_of (seen world.old (F.flight fabric.old) (F.trace fabric.old) (F.faults fabric.old))
+        (seen world.new (F.flight fabric.new) (F.trace fabric.new) (F.faults fabric.new)) result }
+{
+    if threads == 1 {
+        return None;
+    }
+    match step_alone(alloc, world, fabric) {
+        Ok(true) => None,
+        Ok(false) => work_in(rt, alloc, world, fabric, threads, gate),
+        Err(fault) => Some(fault),
+    }
+}
+
+/// Lets a world be drained by so many threads. One thread makes its steps, one after another. Several begin where it has not come to
+/// rest by a few steps of the caller: they take jobs out, run them with no lock held and bring their outcomes back, and between jobs
+/// they move messages on. Where no thread is to be had, or no memory for their hands, the caller does that work.
 pub fn drain_by<A: Acts + Copy + Send + Sync, F: Fabric, G: Gate, R: Threads + Wait + Sync>(
     rt: &R,
     alloc: Global,
@@ -268,7 +315,7 @@ pub fn drain_by<A: Acts + Copy + Send + Sync, F: Fabric, G: Gate, R: Threads + W
     ensures room { OnOk result (HasRoom world.new.journal.entries) }
     ensures quiet { OnOk result (NoneRuns world.new.nodes → IsQuiet world.new.nodes world.new.hand) }
 {
-    if let Some(fault) = work_in(rt, alloc, world, fabric, threads, gate) {
+    if let Some(fault) = work_some(rt, alloc, world, fabric, threads, gate) {
         return Err(fault);
     }
     world.drain(alloc, fabric)
