@@ -8,6 +8,7 @@ ghost use Rattle.hpx_top.specs.Usage.{bad_word, notice_in};
 ghost use Rattle.hpx_program.specs.Program.{HasRunAsAsked};
 
 use hpx_ports::fabric::Fabric;
+use hpx_ports::gate::Gate;
 use hpx_ports::sink::{Sink, write_all};
 use hpx_ports::source::Source;
 use hpx_ports::words::{Words, all_words};
@@ -18,6 +19,8 @@ use hpx_value::memory::OutOfMemory;
 use hpx_world::world::World;
 use std::alloc::Global;
 use std::process::ExitCode;
+use std::sync::Wait;
+use std::thread::Threads;
 
 /// The status where there is no memory for the words.
 const OUT_OF_MEMORY: u8 = 6;
@@ -46,13 +49,15 @@ fn say_no_memory<E: Sink>(err: &mut E)
 
 /// Runs on the words that it is started with, and ends as that run ends. Where there is no memory for the words, nothing is run, and
 /// the status is 6. A status other than 0 writes one line on `err`, and nothing else is written there.
-pub fn program<W: Words, S: Source, K: Sink, E: Sink, F: Fabric>(
+pub fn program<W: Words, S: Source, K: Sink, E: Sink, F: Fabric, R: Threads + Wait + Sync, G: Gate>(
+    rt: &R,
     alloc: Global,
     given: &W,
     source: &mut S,
     sink: &mut K,
     err: &mut E,
     fabric: F,
+    gate: &G,
 ) -> Ended<F>
     requires flight { F.flight fabric ≡ Some [] }
     requires trace { F.trace fabric ≡ Some [] }
@@ -84,7 +89,7 @@ pub fn program<W: Words, S: Source, K: Sink, E: Sink, F: Fabric>(
 {
     match all_words(alloc, given) {
         Ok(words) => {
-            let end = run(alloc, &words, source, sink, err, fabric);
+            let end = run(rt, alloc, &words, source, sink, err, fabric, gate);
             Ended {
                 status: end.status,
                 code: ExitCode::from(end.status),

@@ -15,3 +15,4 @@ pub mod OneSpaceLemmas
 pub mod RunLemmas
 pub mod DoneLemmas
 pub mod WorldFaults
+pub mod WorkerLemmas

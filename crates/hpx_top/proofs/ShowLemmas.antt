@@ -55,6 +55,12 @@ pub err_back : {T E : Type 0} (r : Result T E) (e : E) → IsErrAnd r (λ y. y �
 err_back (Ok x) e h = absurd h
 err_back (Err y) e h = ap (λ z. Err z) h
 
+-- what came as an error, and is handed on, is answered
+pub handed_on : {S T E : Type 0} (r : Result T E) (e f : E) → IsErrAnd r (λ y. y ≡ e) → ◌≡◌ {A = Result S E} (Err e) (Err f) → r ≡ Err f
+handed_on r e f h is =
+    let same : e ≡ f = cc in
+    err_back r e h ∙ ap (λ x. Err x) same
+
 -- what holds of a value, where there is no error
 pub ok_there : {T E : Type 0} (r : Result T E) (P : Type 0) → ((e : E) → r ≡ Err e → ⊥) → OnOk r P → P
 ok_there (Ok x) P never h = h

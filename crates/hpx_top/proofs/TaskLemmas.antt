@@ -1,5 +1,5 @@
 -- What the words ask for.
-use Rattle.std.specs.Prelude.{true, Result, Ok, Err, IfSome, nat_le, ◌&&◌, ◌==◌, ◌^◌, ◌%◌, option_map}
+use Rattle.std.specs.Prelude.{true, not, Result, Ok, Err, IfSome, nat_le, ◌&&◌, ◌==◌, ◌^◌, ◌%◌, option_map}
 use Rattle.std.proofs.Common.{ℕ, List, ◌≡◌, Option, Some, None, sym, ap, ◌∙◌, subst}
 use Rattle.std.proofs.lemmas.Bool.{and_parts, leb-true, eqb-true, cond_both}
 use Rattle.hpx_value.specs.declared.profile.Profile.{Profile}
@@ -13,7 +13,7 @@ use Rattle.hpx_top.specs.declared.task.Request.{Request}
 use Rattle.hpx_top.specs.declared.task.Request.TheVariants.{Print, Run}
 use Rattle.hpx_top.specs.declared.task.Setup.{Setup}
 use Rattle.hpx_top.specs.declared.task.Task.{Task}
-use Rattle.hpx_top.specs.Usage.{are_asked, are_places, is_ring, is_plain, is_tuned, bad_word, notice_in, or_nowhere, place_of, printed_of, reading_request, request_by, request_in, request_of, setup_of, setup_with, task_of, IsRequest, IsSetup, IsTask}
+use Rattle.hpx_top.specs.Usage.{are_asked, are_places, are_threads, is_alone, is_ring, is_plain, is_tuned, bad_word, notice_in, or_nowhere, place_of, printed_of, reading_request, request_by, request_in, request_of, setup_of, setup_with, task_of, IsRequest, IsSetup, IsTask}
 
 by_app : (app : App) → IfSome (task_of app) IsTask
 by_app Apps.Accumulator = tt
@@ -71,12 +71,27 @@ tuned p e =
       cache_most = leb-true p.cache 4096 all.1;
     }
 
-with_task : (settings : Settings) (task : Option Task) → are_places settings.localities ≡ true → is_tuned settings.profile ≡ true → IfSome task IsTask
+with_task : (settings : Settings) (task : Option Task) → are_threads settings.threads ≡ true → are_places settings.localities ≡ true → is_tuned settings.profile ≡ true → IfSome task IsTask
     → IfSome (option_map (setup_with settings) task) IsSetup
-with_task settings None places profile h = tt
-with_task settings (Some task) places profile h =
+with_task settings None threads places profile h = tt
+with_task settings (Some task) threads places profile h =
+    let number = and_parts (nat_le 1 settings.threads) (nat_le settings.threads 64) threads in
     let both = and_parts (nat_le 1 settings.localities) (nat_le settings.localities 64) places in
-    record { task = h; some = leb-true 1 settings.localities both.0; few = leb-true settings.localities 64 both.1; profile = tuned settings.profile profile }
+    record {
+      task = h;
+      some = leb-true 1 settings.localities both.0;
+      few = leb-true settings.localities 64 both.1;
+      threads = leb-true 1 settings.threads number.0;
+      few_threads = leb-true settings.threads 64 number.1;
+      profile = tuned settings.profile profile;
+    }
+
+-- settings that are plain are of 1 to 64 threads
+plain_threads : (settings : Settings) → is_plain settings ≡ true → are_threads settings.threads ≡ true
+plain_threads settings e =
+    let all = and_parts (are_threads settings.threads && is_alone settings.mode && not settings.settle) (not settings.journal) e in
+    let three = and_parts (are_threads settings.threads && is_alone settings.mode) (not settings.settle) all.0 in
+    (and_parts (are_threads settings.threads) (is_alone settings.mode) three.0).0
 
 by_setup : (settings : Settings) → IfSome (setup_of settings) IsSetup
 by_setup settings =
@@ -84,7 +99,7 @@ by_setup settings =
     (λ e.
     let all = and_parts (is_plain settings && are_places settings.localities) (is_tuned settings.profile) e in
     let two = and_parts (is_plain settings) (are_places settings.localities) all.0 in
-    with_task settings (task_of settings.app) two.1 all.1 (by_app settings.app))
+    with_task settings (task_of settings.app) (plain_threads settings two.0) two.1 all.1 (by_app settings.app))
     (λ e. tt)
 
 as_run : (setup : Option Setup) → IfSome setup IsSetup → IfSome (option_map Run setup) IsRequest

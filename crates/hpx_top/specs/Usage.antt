@@ -29,9 +29,12 @@ is_tuned p =
     nat_le 8 p.credit_log && nat_le p.credit_log 31 && nat_le (2 ^ p.credit_log) p.credit_limit && nat_le p.credit_limit (2 ^ 100)
     && nat_le 1 p.cache && nat_le p.cache 4096
 
--- in one process on one thread, without a journal that is written
+abbrev pub are_threads : ℕ → Bool
+are_threads n = nat_le 1 n && nat_le n 64
+
+-- in one process on 1 to 64 threads, without a journal that is written
 abbrev pub is_plain : Settings → Bool
-is_plain settings = (settings.threads == 1) && is_alone settings.mode && not settings.settle && not settings.journal
+is_plain settings = are_threads settings.threads && is_alone settings.mode && not settings.settle && not settings.journal
 
 -- a number up to 92, and a threshold from 2 to 92
 abbrev pub are_asked : ℕ → ℕ → Bool
@@ -56,7 +59,7 @@ task_of _ = None
 
 abbrev pub setup_with : Settings → Task → Setup
 setup_with settings task =
-    record { task = task; localities = settings.localities; profile = settings.profile; counters = settings.counters }
+    record { task = task; localities = settings.localities; threads = settings.threads; profile = settings.profile; counters = settings.counters }
 
 -- what is run, where it is built
 abbrev pub setup_of : Settings → Option Setup
@@ -110,11 +113,13 @@ IsTask (Console console) = Unit {0}
 IsTask (Fib question) = IsQuestion question.number question.threshold
 IsTask (Stencil shape) = IsAsked shape.points shape.parts shape.steps
 
--- from 1 to 64 localities, and a profile in its ranges
+-- from 1 to 64 localities, by 1 to 64 threads, and a profile in its ranges
 pub record IsSetup (setup : Setup) : Type 0 where
   pub task : IsTask setup.task
   pub some : 1 ≤ setup.localities
   pub few : setup.localities ≤ 64
+  pub threads : 1 ≤ setup.threads
+  pub few_threads : setup.threads ≤ 64
   pub profile : IsValid setup.profile
 
 abbrev pub IsNotice : Notice → Type 0

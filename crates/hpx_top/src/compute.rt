@@ -12,6 +12,7 @@ ghost use Rattle.hpx_top.specs.Statuses.{IsStatus, status_after};
 
 use crate::acts::AllActs;
 use crate::consoles::UserConsole;
+use crate::crew::Crew;
 use crate::session::{SessionFault, feed, show};
 use crate::task::Task;
 use app_compute::line::fib_line;
@@ -19,12 +20,15 @@ use app_compute::session::MARK;
 use app_compute::shape::stencil_line;
 use app_console::lines::marked;
 use hpx_ports::fabric::Fabric;
+use hpx_ports::gate::Gate;
 use hpx_ports::sink::Sink;
 use hpx_value::items::Text;
 use hpx_value::memory::OutOfMemory;
 use hpx_value::profile::Profile;
 use hpx_world::world::World;
 use std::alloc::Global;
+use std::sync::Wait;
+use std::thread::Threads;
 
 /// What is done for a task.
 #[derive(Drop)]
@@ -54,7 +58,8 @@ pub(crate) fn work_of(alloc: Global, task: Task) -> Result<Work, OutOfMemory>
 }
 
 /// Feeds the line at boot, and writes what is printed once the world has come to rest.
-fn answer<K: Sink, F: Fabric>(
+fn answer<K: Sink, F: Fabric, R: Threads + Wait + Sync, G: Gate>(
+    crew: &Crew<R, G>,
     alloc: Global,
     world: &mut World<AllActs>,
     line: Text,
@@ -82,14 +87,15 @@ fn answer<K: Sink, F: Fabric>(
     ensures write_only { result ≢ Err SessionFault.Write → K.faults sink.new ≡ K.faults sink.old }
     ensures fabric_only { result ≢ Err SessionFault.Fabric → F.faults fabric.new ≡ F.faults fabric.old }
 {
-    feed(alloc, world, line, fabric)?;
+    feed(crew, alloc, world, line, fabric)?;
     show(world.journal(), 0, sink)
 }
 
 /// Feeds the line to so many localities, on a fabric in which nothing is in flight yet, and writes what is printed. It has no
 /// source.
 #[tactic(auto, using(crate::proofs::Carried::carrying_start))]
-pub(crate) fn compute_all<K: Sink, F: Fabric>(
+pub(crate) fn compute_all<K: Sink, F: Fabric, R: Threads + Wait + Sync, G: Gate>(
+    crew: &Crew<R, G>,
     alloc: Global,
     localities: u32,
     profile: Profile,
@@ -122,7 +128,7 @@ pub(crate) fn compute_all<K: Sink, F: Fabric>(
         Ok(world) => world,
         Err(_) => return (None, Err(SessionFault::OutOfMemory)),
     };
-    let answered = answer(alloc, &mut world, line, sink, fabric);
+    let answered = answer(crew, alloc, &mut world, line, sink, fabric);
     world.law();
     (Some(world), answered)
 }

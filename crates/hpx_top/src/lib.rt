@@ -4,6 +4,7 @@
 pub mod acts;
 mod compute;
 pub mod consoles;
+pub mod crew;
 mod own;
 mod printed;
 mod progress;

@@ -16,6 +16,7 @@ ghost use Rattle.hpx_top.specs.Usage.{IsRequest, IsSetup, bad_word, notice_in, r
 use crate::acts::AllActs;
 use crate::compute::{Work, compute_all, work_of};
 use crate::consoles::UserConsole;
+use crate::crew::Crew;
 use crate::printed::{print, write_values};
 use crate::serve::serve;
 use crate::session::SessionFault;
@@ -23,6 +24,7 @@ use crate::task::{Notice, Request, Setup, request_in};
 use hpx_counters::counter::Counter;
 use hpx_options::texts;
 use hpx_ports::fabric::Fabric;
+use hpx_ports::gate::Gate;
 use hpx_ports::sink::{Sink, write_all};
 use hpx_ports::source::Source;
 use hpx_value::items::Texts;
@@ -30,6 +32,8 @@ use hpx_value::memory::OutOfMemory;
 use hpx_value::profile::Profile;
 use hpx_world::world::World;
 use std::alloc::Global;
+use std::sync::Wait;
+use std::thread::Threads;
 
 /// How a run ended: its status, the world where one was booted, and the fabric.
 #[derive(Drop)]
@@ -70,7 +74,8 @@ fn say<E: Sink>(err: &mut E, line: &[u8])
 
 /// A session of a console over so many localities, on a fabric in which nothing is in flight yet.
 #[tactic(auto, using(crate::proofs::Carried::carrying_start))]
-fn serve_all<S: Source, K: Sink, F: Fabric>(
+fn serve_all<S: Source, K: Sink, F: Fabric, R: Threads + Wait + Sync, G: Gate>(
+    crew: &Crew<R, G>,
     alloc: Global,
     console: UserConsole,
     localities: u32,
@@ -105,13 +110,14 @@ fn serve_all<S: Source, K: Sink, F: Fabric>(
         Ok(world) => world,
         Err(_) => return (None, Err(SessionFault::OutOfMemory), Vec::new(alloc)),
     };
-    let (cuts, served) = serve(alloc, console, &mut world, source, sink, fabric);
+    let (cuts, served) = serve(crew, alloc, console, &mut world, source, sink, fabric);
     world.law();
     (Some(world), served, cuts)
 }
 
 /// The task of a setup, on a fabric in which nothing is in flight yet.
-fn run_task<S: Source, K: Sink, F: Fabric>(
+fn run_task<S: Source, K: Sink, F: Fabric, R: Threads + Wait + Sync, G: Gate>(
+    crew: &Crew<R, G>,
     alloc: Global,
     setup: &Setup,
     source: &mut S,
@@ -140,10 +146,12 @@ fn run_task<S: Source, K: Sink, F: Fabric>(
     let (localities, profile) = (setup.localities, setup.profile);
     match work_of(alloc, setup.task) {
         Ok(Work::Serves(console)) => {
-            serve_all(alloc, console, localities, profile, source, sink, fabric)
+            serve_all(
+                crew, alloc, console, localities, profile, source, sink, fabric,
+            )
         }
         Ok(Work::Answers(line)) => {
-            let (world, done) = compute_all(alloc, localities, profile, line, sink, fabric);
+            let (world, done) = compute_all(crew, alloc, localities, profile, line, sink, fabric);
             (world, done, Vec::new(alloc))
         }
         Err(OutOfMemory) => (None, Err(SessionFault::OutOfMemory), Vec::new(alloc)),
@@ -170,7 +178,9 @@ fn write_counters<K: Sink>(
 }
 
 /// A setup: its task, and where that ends well, the values of its counters.
-fn run_setup<S: Source, K: Sink, F: Fabric>(
+fn run_setup<S: Source, K: Sink, F: Fabric, R: Threads + Wait + Sync, G: Gate>(
+    rt: &R,
+    gate: &G,
     alloc: Global,
     setup: &Setup,
     source: &mut S,
@@ -195,7 +205,12 @@ fn run_setup<S: Source, K: Sink, F: Fabric>(
     ensures untouched { result.0 ≡ None → (source.new ≡ source.old) × (sink.new ≡ sink.old) × (fabric.new ≡ fabric.old) }
     ensures uncut { result.0 ≡ None → result.2.items ≡ [] }
 {
-    let (world, done, cuts) = run_task(alloc, setup, source, sink, fabric);
+    let crew = Crew {
+        rt,
+        gate,
+        threads: setup.threads,
+    };
+    let (world, done, cuts) = run_task(&crew, alloc, setup, source, sink, fabric);
     let counted = match done {
         Ok(()) => write_counters(setup.counters.as_slice(), &world, sink),
         Err(fault) => Err(fault),
@@ -204,7 +219,9 @@ fn run_setup<S: Source, K: Sink, F: Fabric>(
 }
 
 /// What the words ask for, on a fabric in which nothing is in flight yet.
-fn fulfil<S: Source, K: Sink, F: Fabric>(
+fn fulfil<S: Source, K: Sink, F: Fabric, R: Threads + Wait + Sync, G: Gate>(
+    rt: &R,
+    gate: &G,
     alloc: Global,
     request: &Request,
     source: &mut S,
@@ -234,18 +251,21 @@ fn fulfil<S: Source, K: Sink, F: Fabric>(
 {
     match request {
         Request::Print(notice) => (None, print(alloc, *notice, sink), Vec::new(alloc)),
-        Request::Run(setup) => run_setup(alloc, setup, source, sink, fabric),
+        Request::Run(setup) => run_setup(rt, gate, alloc, setup, source, sink, fabric),
     }
 }
 
-/// Runs the program on its words. A status other than 0 writes one line on `err`; where that fails, the status stays.
-pub fn run<S: Source, K: Sink, E: Sink, F: Fabric>(
+/// Runs the program on its words, by as many threads as they ask for, each of which passes the gate before a body. A status other than
+/// 0 writes one line on `err`; where that fails, the status stays.
+pub fn run<S: Source, K: Sink, E: Sink, F: Fabric, R: Threads + Wait + Sync, G: Gate>(
+    rt: &R,
     alloc: Global,
     words: &Texts,
     source: &mut S,
     sink: &mut K,
     err: &mut E,
     mut fabric: F,
+    gate: &G,
 ) -> End<F>
     requires flight { F.flight fabric ≡ Some [] }
     requires trace { F.trace fabric ≡ Some [] }
@@ -285,7 +305,7 @@ pub fn run<S: Source, K: Sink, E: Sink, F: Fabric>(
             };
         }
     };
-    let (world, ended, cuts) = fulfil(alloc, &request, source, sink, &mut fabric);
+    let (world, ended, cuts) = fulfil(rt, gate, alloc, &request, source, sink, &mut fabric);
     let status = match ended {
         Ok(()) => 0,
         Err(fault) => {

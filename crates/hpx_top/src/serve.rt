@@ -18,6 +18,7 @@ ghost use Rattle.hpx_top.specs.Statuses.{IsStatus, status_after};
 
 use crate::acts::AllActs;
 use crate::consoles::UserConsole;
+use crate::crew::Crew;
 use crate::own::{own_of, write_own};
 use crate::progress::Progress;
 use crate::reader::{LineReader, Next, ReadFault};
@@ -26,14 +27,18 @@ use crate::typed::{handle, held_by};
 use app_console::lines::{PROMPT, TOO_LONG};
 use hpx_own::lines::handled_as;
 use hpx_ports::fabric::Fabric;
+use hpx_ports::gate::Gate;
 use hpx_ports::sink::Sink;
 use hpx_ports::source::Source;
 use hpx_value::items::Text;
 use hpx_world::world::World;
 use std::alloc::Global;
+use std::sync::Wait;
+use std::thread::Threads;
 
 /// Handles a line, and writes its text.
-fn serve_text<K: Sink, F: Fabric>(
+fn serve_text<K: Sink, F: Fabric, R: Threads + Wait + Sync, G: Gate>(
+    crew: &Crew<R, G>,
     alloc: Global,
     console: UserConsole,
     world: &mut World<AllActs>,
@@ -70,7 +75,16 @@ fn serve_text<K: Sink, F: Fabric>(
     let from = world.journal().entries();
     let handled = handled_as(console.owns(), line.as_slice());
     progress.reserve()?;
-    handle(alloc, console, world, line, handled, progress.held, fabric)?;
+    handle(
+        crew,
+        alloc,
+        console,
+        world,
+        line,
+        handled,
+        progress.held,
+        fabric,
+    )?;
     let own = own_of(alloc, world, handled)?;
     let held = held_by(progress.held, handled);
     progress.pass(held, world.journal().entries());
@@ -103,7 +117,8 @@ fn serve_long<K: Sink>(
 }
 
 /// One line: a prompt, and what the line prints. False where the lines end.
-fn serve_line<S: Source, K: Sink, F: Fabric>(
+fn serve_line<S: Source, K: Sink, F: Fabric, R: Threads + Wait + Sync, G: Gate>(
+    crew: &Crew<R, G>,
     alloc: Global,
     console: UserConsole,
     world: &mut World<AllActs>,
@@ -162,7 +177,7 @@ fn serve_line<S: Source, K: Sink, F: Fabric>(
     write(sink, PROMPT)?;
     match reader.next_line(alloc, source) {
         Ok(Next::Line(line)) => {
-            serve_text(alloc, console, world, &line, progress, sink, fabric)?;
+            serve_text(crew, alloc, console, world, &line, progress, sink, fabric)?;
             Ok(true)
         }
         Ok(Next::Long) => {
@@ -178,7 +193,8 @@ fn serve_line<S: Source, K: Sink, F: Fabric>(
 }
 
 /// Lets go what was held back, if anything was, and writes what it prints.
-fn let_go<K: Sink, F: Fabric>(
+fn let_go<K: Sink, F: Fabric, R: Threads + Wait + Sync, G: Gate>(
+    crew: &Crew<R, G>,
     alloc: Global,
     world: &mut World<AllActs>,
     held: bool,
@@ -211,12 +227,13 @@ fn let_go<K: Sink, F: Fabric>(
         return Ok(());
     }
     let from = world.journal().entries();
-    settle(alloc, world, fabric)?;
+    settle(crew, alloc, world, fabric)?;
     show(world.journal(), from, sink)
 }
 
 /// Writes the commands, does what comes before the first line, and serves each line.
-fn serve_lines<S: Source, K: Sink, F: Fabric>(
+fn serve_lines<S: Source, K: Sink, F: Fabric, R: Threads + Wait + Sync, G: Gate>(
+    crew: &Crew<R, G>,
     alloc: Global,
     console: UserConsole,
     world: &mut World<AllActs>,
@@ -264,9 +281,10 @@ fn serve_lines<S: Source, K: Sink, F: Fabric>(
     ensures fabric_only { result ≢ Err SessionFault.Fabric → F.faults fabric.new ≡ F.faults fabric.old }
 {
     write(sink, console.commands())?;
-    open(alloc, console, world, fabric)?;
+    open(crew, alloc, console, world, fabric)?;
     let mut reader = LineReader::new(alloc);
     while serve_line(
+        crew,
         alloc,
         console,
         world,
@@ -277,12 +295,13 @@ fn serve_lines<S: Source, K: Sink, F: Fabric>(
         fabric,
     )? {}
     let held = progress.held;
-    let_go(alloc, world, held, sink, fabric)
+    let_go(crew, alloc, world, held, sink, fabric)
 }
 
 /// A session of a console, from the first text to the last prompt. Its world is at boot. The numbers are how long the journal
 /// was behind each line that was handled.
-pub fn serve<S: Source, K: Sink, F: Fabric>(
+pub fn serve<S: Source, K: Sink, F: Fabric, R: Threads + Wait + Sync, G: Gate>(
+    crew: &Crew<R, G>,
     alloc: Global,
     console: UserConsole,
     world: &mut World<AllActs>,
@@ -309,6 +328,15 @@ pub fn serve<S: Source, K: Sink, F: Fabric>(
     ensures profile { world.new.profile ≡ world.old.profile }
 {
     let mut progress = Progress::new(alloc);
-    let served = serve_lines(alloc, console, world, &mut progress, source, sink, fabric);
+    let served = serve_lines(
+        crew,
+        alloc,
+        console,
+        world,
+        &mut progress,
+        source,
+        sink,
+        fabric,
+    );
     (progress.cuts, served)
 }

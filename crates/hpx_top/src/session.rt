@@ -17,16 +17,21 @@ ghost use Rattle.hpx_top.specs.Session.{rules, IsRested, FeedsAtMost, Feeds, Has
 
 use crate::acts::AllActs;
 use crate::consoles::UserConsole;
+use crate::crew::Crew;
 use app_console::lines::opening;
 use hpx_journal::entry::{Entry, Event};
 use hpx_journal::journal::Journal;
 use hpx_ports::fabric::Fabric;
 use hpx_ports::fault::Failed;
+use hpx_ports::gate::Gate;
 use hpx_ports::sink::{Sink, write_all};
+use hpx_site::workers::drain_by;
 use hpx_value::items::Text;
 use hpx_world::turns::{Choice, WorldFault};
 use hpx_world::world::World;
 use std::alloc::Global;
+use std::sync::Wait;
+use std::thread::Threads;
 use thiserror::Error;
 
 /// Why a session ends before its input does.
@@ -171,8 +176,10 @@ pub(crate) fn begin<F: Fabric>(
     }
 }
 
-/// Lets the world come to rest. The fabric tells: no frame without a parcel comes, and none that breaks a rule.
-pub(crate) fn settle<F: Fabric>(
+/// Lets the world come to rest, by those who run its bodies. The fabric tells: no frame without a parcel comes, and none that breaks a
+/// rule.
+pub(crate) fn settle<F: Fabric, R: Threads + Wait + Sync, G: Gate>(
+    crew: &Crew<R, G>,
     alloc: Global,
     world: &mut World<AllActs>,
     fabric: &mut F,
@@ -192,16 +199,22 @@ pub(crate) fn settle<F: Fabric>(
     ensures cause { IfErr result (λ fault. (fault ≡ SessionFault.Fabric) ⊎ (fault ≡ SessionFault.JournalFull) ⊎ (fault ≡ SessionFault.OutOfMemory)) }
     ensures stands { result ≢ Err SessionFault.Fabric → F.faults fabric.new ≡ F.faults fabric.old }
 {
-    let drained = world.drain(alloc, fabric);
+    let drained = drain_by(crew.rt, alloc, world, fabric, crew.threads, crew.gate);
     world.law();
-    match drained {
-        Ok(()) => Ok(()),
-        Err(fault) => Err(fault_of(fault, world.journal().room())),
+    if let Err(fault) = drained {
+        return Err(fault_of(fault, world.journal().room()));
+    }
+    if world.quiet() {
+        Ok(())
+    } else {
+        // A job is out that no worker has brought back.
+        Err(SessionFault::OutOfMemory)
     }
 }
 
 /// Feeds a text, and lets the world come to rest.
-pub(crate) fn feed<F: Fabric>(
+pub(crate) fn feed<F: Fabric, R: Threads + Wait + Sync, G: Gate>(
+    crew: &Crew<R, G>,
     alloc: Global,
     world: &mut World<AllActs>,
     text: Text,
@@ -227,11 +240,12 @@ pub(crate) fn feed<F: Fabric>(
     ensures stands { result ≢ Err SessionFault.Fabric → F.faults fabric.new ≡ F.faults fabric.old }
 {
     begin(alloc, world, text, fabric)?;
-    settle(alloc, world, fabric)
+    settle(crew, alloc, world, fabric)
 }
 
 /// Has the accumulator made.
-fn make_accumulator<F: Fabric>(
+fn make_accumulator<F: Fabric, R: Threads + Wait + Sync, G: Gate>(
+    crew: &Crew<R, G>,
     alloc: Global,
     world: &mut World<AllActs>,
     fabric: &mut F,
@@ -255,13 +269,14 @@ fn make_accumulator<F: Fabric>(
     ensures stands { result ≢ Err SessionFault.Fabric → F.faults fabric.new ≡ F.faults fabric.old }
 {
     match opening(alloc) {
-        Ok(text) => feed(alloc, world, text, fabric),
+        Ok(text) => feed(crew, alloc, world, text, fabric),
         Err(_) => Err(SessionFault::OutOfMemory),
     }
 }
 
 /// What is done before the first line: the accumulator is made, or nothing.
-pub(crate) fn open<F: Fabric>(
+pub(crate) fn open<F: Fabric, R: Threads + Wait + Sync, G: Gate>(
+    crew: &Crew<R, G>,
     alloc: Global,
     console: UserConsole,
     world: &mut World<AllActs>,
@@ -288,7 +303,7 @@ pub(crate) fn open<F: Fabric>(
     ensures stands { result ≢ Err SessionFault.Fabric → F.faults fabric.new ≡ F.faults fabric.old }
 {
     match console {
-        UserConsole::Accumulator => make_accumulator(alloc, world, fabric),
+        UserConsole::Accumulator => make_accumulator(crew, alloc, world, fabric),
         UserConsole::Space => {
             world.law();
             Ok(())

@@ -1,6 +1,6 @@
 //! What the words ask for.
 ghost use Rattle.std.specs.Prelude.{◌≡◌};
-ghost use Rattle.hpx_top.specs.Usage.{are_asked, are_places, is_plain, is_ring, is_tuned, request_in, request_of, setup_of, task_of};
+ghost use Rattle.hpx_top.specs.Usage.{are_asked, are_places, are_threads, is_plain, is_ring, is_tuned, request_in, request_of, setup_of, task_of};
 
 use crate::consoles::UserConsole;
 use app_compute::line::Question;
@@ -21,11 +21,12 @@ pub enum Task {
     Stencil(Shape),
 }
 
-/// An application, the localities and the profile that it is run over, and the counters that are printed behind it.
+/// An application, the localities and the profile that it is run over, by how many threads, and the counters that are printed behind it.
 #[derive(Drop)]
 pub struct Setup {
     pub task: Task,
     pub localities: u32,
+    pub threads: u32,
     pub profile: Profile,
     pub counters: Counters,
 }
@@ -47,6 +48,8 @@ pub enum Request {
 }
 
 const MOST_LOCALITIES: u32 = 64;
+
+const MOST_THREADS: u32 = 64;
 
 const GREATEST_NUMBER: u32 = 92;
 
@@ -89,6 +92,13 @@ fn are_places(localities: u32) -> bool
     1 <= localities && localities <= MOST_LOCALITIES
 }
 
+/// From 1 to 64 threads.
+fn are_threads(threads: u32) -> bool
+    ensures { result ≡ are_threads threads }
+{
+    1 <= threads && threads <= MOST_THREADS
+}
+
 /// The settings of credit and cache in their ranges.
 fn is_tuned(profile: Profile) -> bool
     ensures { result ≡ is_tuned profile }
@@ -128,11 +138,11 @@ fn task_of(app: App) -> Option<Task>
     }
 }
 
-/// Whether it is run in one process, on one thread, and writes no journal.
+/// Whether it is run in one process, on 1 to 64 threads, and writes no journal.
 fn is_plain(settings: &Settings) -> bool
     ensures { result ≡ is_plain settings.now }
 {
-    settings.threads == 1
+    are_threads(settings.threads)
         && matches!(settings.mode, Mode::Hosted)
         && !settings.settle
         && !settings.journal
@@ -148,6 +158,7 @@ fn setup_of(settings: Settings) -> Option<Setup>
     Some(Setup {
         task: task_of(settings.app)?,
         localities: settings.localities,
+        threads: settings.threads,
         profile: settings.profile,
         counters: settings.counters,
     })

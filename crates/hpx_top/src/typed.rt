@@ -16,15 +16,19 @@ ghost use Rattle.hpx_top.specs.Session.{rules, IsRested, HasBegun};
 
 use crate::acts::AllActs;
 use crate::consoles::UserConsole;
+use crate::crew::Crew;
 use crate::session::{SessionFault, begin, fault_of, settle};
 use app_console::lines::marked;
 use hpx_hold::home::stay_home;
 use hpx_hold::turns::turns;
 use hpx_own::lines::Handled;
 use hpx_ports::fabric::Fabric;
+use hpx_ports::gate::Gate;
 use hpx_value::items::Text;
 use hpx_world::world::World;
 use std::alloc::Global;
+use std::sync::Wait;
+use std::thread::Threads;
 
 /// Lets locality 0 alone go on, until it can do nothing.
 fn stay<F: Fabric>(
@@ -110,7 +114,8 @@ fn take_turns<F: Fabric>(
 }
 
 /// Feeds a line. All that follows from it is done, or in a hold what locality 0 alone can do of it.
-fn feed_line<F: Fabric>(
+fn feed_line<F: Fabric, R: Threads + Wait + Sync, G: Gate>(
+    crew: &Crew<R, G>,
     alloc: Global,
     console: UserConsole,
     world: &mut World<AllActs>,
@@ -144,12 +149,13 @@ fn feed_line<F: Fabric>(
     if held {
         stay(alloc, world, fabric)
     } else {
-        settle(alloc, world, fabric)
+        settle(crew, alloc, world, fabric)
     }
 }
 
 /// Does what a line asks of the world. Outside a hold nothing is left for `turn` and `drain` to do.
-pub(crate) fn handle<F: Fabric>(
+pub(crate) fn handle<F: Fabric, R: Threads + Wait + Sync, G: Gate>(
+    crew: &Crew<R, G>,
     alloc: Global,
     console: UserConsole,
     world: &mut World<AllActs>,
@@ -179,9 +185,9 @@ pub(crate) fn handle<F: Fabric>(
     ensures stands { result ≢ Err SessionFault.Fabric → F.faults fabric.new ≡ F.faults fabric.old }
 {
     match handled {
-        Handled::Fed => feed_line(alloc, console, world, line, held, fabric),
+        Handled::Fed => feed_line(crew, alloc, console, world, line, held, fabric),
         Handled::Turn(most) if held => take_turns(alloc, world, most, fabric),
-        Handled::Drain if held => settle(alloc, world, fabric),
+        Handled::Drain if held => settle(crew, alloc, world, fabric),
         Handled::Turn(_) => Ok(()),
         Handled::Drain => Ok(()),
         Handled::Hold => Ok(()),

@@ -1,8 +1,8 @@
 use Rattle.std.proofs.Common.{Err, ap, ◌∙◌, subst}
 use Rattle.hpx_top.specs.Reader.{lines_left}
-use Rattle.hpx_top.specs.declared.session.SessionFault.TheVariants.{OutOfMemory}
+use Rattle.hpx_top.specs.declared.session.SessionFault.TheVariants.{Fabric, JournalFull, OutOfMemory, Write}
 use Rattle.hpx_top.specs.Session.{rules, IsLineEndedBy}
-use Rattle.hpx_top.proofs.ShowLemmas.{if_err_from, err_of}
+use Rattle.hpx_top.proofs.ShowLemmas.{if_err_from, err_of, handed_on}
 use Rattle.hpx_top.proofs.SessionLemmas.{served_more, serving_more, cut_here, cut_line, next_line, next_long, over_end, over_quit, under_prompt, stopped_full, stopped_read}
 use Rattle.hpx_top.proofs.FeedLemmas.{cut_long, cut_text, cut_write}
 use Rattle.hpx_top.proofs.serve.serve_line.Goals as goal
@@ -140,3 +140,16 @@ returns-in_err-serve_text-in-Ok-Line-clause-out g c = λ h out.
 pub returns-in_err-serve_long-in-Ok-Long-clause-out : goal.returns-in_err-serve_long-in-Ok-Long-clause-out
 returns-in_err-serve_long-in-Ok-Long-clause-out g c = λ h out.
     let no = rw (c.in-Ok-Long.is, c.in-Ok-Long.field-0-is) at c.next_line.ensures.out out in no
+
+-- a fault of the line is handed on
+pub returns-in_err-serve_text-in-Ok-Line-clause-room : goal.returns-in_err-serve_text-in-Ok-Line-clause-room
+returns-in_err-serve_text-in-Ok-Line-clause-room g c = λ before other.
+    c.in_err-serve_text-in-Ok-Line.ensures.room before (λ e. other (handed_on c.from_residual-in_err-serve_text-in-Ok-Line.result c.in_err-serve_text-in-Ok-Line.field-0.0 JournalFull c.from_residual-in_err-serve_text-in-Ok-Line.ensures.1 e))
+
+pub returns-in_err-serve_text-in-Ok-Line-clause-write_only : goal.returns-in_err-serve_text-in-Ok-Line-clause-write_only
+returns-in_err-serve_text-in-Ok-Line-clause-write_only g c = λ other.
+    c.in_err-serve_text-in-Ok-Line.ensures.write_only (λ e. other (handed_on c.from_residual-in_err-serve_text-in-Ok-Line.result c.in_err-serve_text-in-Ok-Line.field-0.0 Write c.from_residual-in_err-serve_text-in-Ok-Line.ensures.1 e)) ∙ c.in_ok-write.ensures.stands
+
+pub returns-in_err-serve_text-in-Ok-Line-clause-fabric_only : goal.returns-in_err-serve_text-in-Ok-Line-clause-fabric_only
+returns-in_err-serve_text-in-Ok-Line-clause-fabric_only g c = λ other.
+    c.in_err-serve_text-in-Ok-Line.ensures.fabric_only (λ e. other (handed_on c.from_residual-in_err-serve_text-in-Ok-Line.result c.in_err-serve_text-in-Ok-Line.field-0.0 Fabric c.from_residual-in_err-serve_text-in-Ok-Line.ensures.1 e))
