@@ -75,16 +75,7 @@ fn serve_text<K: Sink, F: Fabric, R: Threads + Wait + Sync, G: Gate>(
     let from = world.journal().entries();
     let handled = handled_as(console.owns(), line.as_slice());
     progress.reserve()?;
-    handle(
-        crew,
-        alloc,
-        console,
-        world,
-        line,
-        handled,
-        progress.held,
-        fabric,
-    )?;
+    handle(crew, alloc, console, world, line, handled, progress, fabric)?;
     let own = own_of(alloc, world, handled)?;
     let held = held_by(progress.held, handled);
     progress.pass(held, world.journal().entries());

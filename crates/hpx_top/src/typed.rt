@@ -1,5 +1,5 @@
 //! What a typed line does to the world.
-ghost use Rattle.std.specs.Prelude.{◌≡◌, ◌≢◌, ◌∷◌, ◌⊎◌, ℕ, Ok, Err, OnOk, IfErr, length, false};
+ghost use Rattle.std.specs.Prelude.{◌≡◌, ◌≢◌, ◌<◌, ◌∷◌, ◌⊎◌, ℕ, Ok, Err, OnOk, IfErr, length, vec_capacity, false};
 ghost use Rattle.hpx_journal.specs.Weights.{HasRoom};
 ghost use Rattle.hpx_journal.specs.Whole.{replayed};
 ghost use Rattle.hpx_hold.specs.Home.{GrowsAtHome, WaitsBusy};
@@ -17,6 +17,7 @@ ghost use Rattle.hpx_top.specs.Session.{rules, IsRested, HasBegun};
 use crate::acts::AllActs;
 use crate::consoles::UserConsole;
 use crate::crew::Crew;
+use crate::progress::Progress;
 use crate::session::{SessionFault, begin, fault_of, settle};
 use app_console::lines::marked;
 use hpx_hold::home::stay_home;
@@ -153,7 +154,7 @@ fn feed_line<F: Fabric, R: Threads + Wait + Sync, G: Gate>(
     }
 }
 
-/// Does what a line asks of the world. Outside a hold nothing is left for `turn` and `drain` to do.
+/// Does what a line asks of the world. Outside a hold nothing is left for `turn` and `drain` to do. Memory to note it has been made.
 pub(crate) fn handle<F: Fabric, R: Threads + Wait + Sync, G: Gate>(
     crew: &Crew<R, G>,
     alloc: Global,
@@ -161,20 +162,21 @@ pub(crate) fn handle<F: Fabric, R: Threads + Wait + Sync, G: Gate>(
     world: &mut World<AllActs>,
     line: &Text,
     handled: Handled,
-    held: bool,
+    progress: &Progress,
     fabric: &mut F,
 ) -> Result<(), SessionFault>
     requires short { is_long line.now ≡ false }
     requires so { handled_as (owns console) line.now ≡ handled }
-    requires rest { held ≡ false → IsRested world.old }
+    requires noted { length progress.now.cuts.items < vec_capacity progress.now.cuts }
+    requires rest { progress.now.held ≡ false → IsRested world.old }
     requires jobs { NoneRuns world.old.nodes }
     requires carrying { IsCarrying (rules world.old) world.old.hand (F.flight fabric.old) (F.trace fabric.old) world.old.journal.entries }
 
     ensures carrying { IsCarrying (rules world.new) world.new.hand (F.flight fabric.new) (F.trace fabric.new) world.new.journal.entries }
     ensures count { length world.new.nodes ≡ length world.old.nodes }
     ensures profile { world.new.profile ≡ world.old.profile }
-    ensures did { OnOk result (GrowsBy (Does (rules world.old) (mark_of console ∷ line.now) held (Typed handled) world.old.journal.entries) world.old.journal.entries world.new.journal.entries) }
-    ensures rest { OnOk result (held_by held (Typed handled) ≡ false → IsRested world.new) }
+    ensures did { OnOk result (GrowsBy (Does (rules world.old) (mark_of console ∷ line.now) progress.now.held (Typed handled) world.old.journal.entries) world.old.journal.entries world.new.journal.entries) }
+    ensures rest { OnOk result (held_by progress.now.held (Typed handled) ≡ false → IsRested world.new) }
     ensures jobs { OnOk result (NoneRuns world.new.nodes) }
     ensures once { HasBegun console line.now world.old.journal.entries world.new.journal.entries }
 
@@ -184,6 +186,7 @@ pub(crate) fn handle<F: Fabric, R: Threads + Wait + Sync, G: Gate>(
     ensures cause { IfErr result (λ fault. (fault ≡ SessionFault.Fabric) ⊎ (fault ≡ SessionFault.JournalFull) ⊎ (fault ≡ SessionFault.OutOfMemory)) }
     ensures stands { result ≢ Err SessionFault.Fabric → F.faults fabric.new ≡ F.faults fabric.old }
 {
+    let held = progress.held;
     match handled {
         Handled::Fed => feed_line(crew, alloc, console, world, line, held, fabric),
         Handled::Turn(most) if held => take_turns(alloc, world, most, fabric),
