@@ -1,7 +1,8 @@
 #!/usr/bin/env python3
 """Builds the program, and prints how fast it computes: calls a second of `fib`, steps of parts a second of `stencil`, and peak memory.
 
-A call is one action that computes a Fibonacci number: with a threshold of 2 each call of 2 or more makes two others. Run it anywhere in
+A call is one action that computes a Fibonacci number: with a threshold of 2 each call of 2 or more makes two others, and with a
+threshold of 12 each call below 12 computes its number by itself, so that bodies cost more. Run it anywhere in
 the repository, with `rt` on the path. Each is run five times, and the shortest time is taken. The time to start the program, measured
 with the smallest number or no step, is taken off.
 """
@@ -15,6 +16,7 @@ CRATE = pathlib.Path(__file__).resolve().parent.parent / "crates" / "hpx"
 PROGRAM = CRATE / "out" / "hpx"
 RUNS = 5
 THRESHOLD = 2
+COSTLY = 12
 
 
 def fibonacci(n):
@@ -22,9 +24,9 @@ def fibonacci(n):
     return n if n < 2 else fibonacci(n - 1) + fibonacci(n - 2)
 
 
-def calls(n):
+def calls(n, threshold=THRESHOLD):
     """How many calls compute it."""
-    return 1 if n < THRESHOLD else 1 + calls(n - 1) + calls(n - 2)
+    return 1 if n < threshold else 1 + calls(n - 1, threshold) + calls(n - 2, threshold)
 
 
 def run(words, want):
@@ -45,8 +47,8 @@ def shortest(words, want=None):
     return min(run(words, want) for _ in range(RUNS))
 
 
-def fib(n, localities):
-    words = ["fib", "--n-value", str(n), "--threshold", str(THRESHOLD), f"--hpx:localities={localities}"]
+def fib(n, localities, threads=1, threshold=THRESHOLD):
+    words = ["fib", "--n-value", str(n), "--threshold", str(threshold), f"--hpx:localities={localities}", f"--hpx:threads={threads}"]
     return shortest(words, b"fibonacci(%d) == %d\n" % (n, fibonacci(n)))
 
 
@@ -66,6 +68,12 @@ def main():
         idle, _ = stencil(1024, 32, 0, localities)
         took, held = stencil(1024, 32, 100, localities)
         print(f"stencil of 1,024 points in 32 parts, {localities} localities: {3200 / (took - idle):.0f} steps of parts a second, {held:.0f} MB")
+    for n, threshold in ((20, THRESHOLD), (28, COSTLY)):
+        for threads in (1, 2, 4):
+            idle, _ = fib(1, 1, threads, threshold)
+            took, held = fib(n, 1, threads, threshold)
+            count = calls(n, threshold)
+            print(f"fib {n}, threshold {threshold}, {threads} threads: {count} calls, {count / (took - idle):.0f} calls a second, {held:.0f} MB")
 
 
 if __name__ == "__main__":
