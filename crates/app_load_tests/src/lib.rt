@@ -1,0 +1,5 @@
+//! The lines of made sessions, as tables.
+#![tactic(auto)]
+
+#[cfg(test)]
+mod session;
