@@ -146,13 +146,17 @@ module _ (n : ℕ) (v : Plain) (xs : List Bool) (s : IsSound v xs) where
   abbrev status : ℕ → Status
   status j = status_in (kind_by v.items) v.names (name j)
 
+  -- the name is to stand for what is made there
+  abbrev made_call : ℕ → List ℕ → Done
+  made_call j place = Calls (RootAt 3 (locality_or_0 (number_of place))) 5 (GivenWord (codes "accumulator") ∷ []) (Bound (name j))
+
   -- what `new` does, by all that is judged
   abbrev new_plan : ℕ → List ℕ → Bool → Option Refusal → Option ℤ → Bool → Bool → Done
   new_plan j place good refused number few room =
       unless_refused
       (or_else (or_else (if good then refused else Some BadName) (or_else (within_refusal NoSuchLocality (λ k. nat_lt k n) number) None))
       (or_else None (or_else (unless TooManyNames few) (unless TooManyPending room))))
-      (Calls (RootAt 3 (locality_or_0 (number_of place))) 5 (GivenWord (codes "accumulator") ∷ []) (Bound (name j)))
+      (made_call j place)
 
   new_plan_is : (j p : ℕ) → j < 8 → p < 64 → plan_of Space (sight_of n v) (line_with (codes "new") j p)
       ≡ new_plan j (decimal p) (is_name (name j)) (new_refusal (status j)) (number_of (decimal p)) (nat_lt (length v.names) 100) (nat_lt v.awaited 100)
@@ -180,14 +184,18 @@ module _ (n : ℕ) (v : Plain) (xs : List Bool) (s : IsSound v xs) where
       let at = locality_or_0 (number_of (decimal p)) in
       let absent : times (name j) v.names ≡ 0 = s.names.known j low ∙ ap one_if lacks in
       let fresh : new_refusal (status j) ≡ None = ap new_refusal (absent_status (kind_by v.items) (name j) v.names absent) in
-      let plan : plan_of Space (sight_of n v) (line_with (codes "new") j p) ≡ Calls (RootAt 3 at) 5 (GivenWord (codes "accumulator") ∷ []) (Bound (name j)) =
+      let number = number_of (decimal p) in
+      let few_names = nat_lt (length v.names) 100 in
+      let room = nat_lt v.awaited 100 in
+      let full = or_else (unless TooManyNames few_names) (unless TooManyPending room) in
+      let plan : plan_of Space (sight_of n v) (line_with (codes "new") j p) ≡ made_call j (decimal p) =
       new_plan_is j p low place
-      ∙ (ap (λ b. new_plan j (decimal p) b (new_refusal (status j)) (number_of (decimal p)) (nat_lt (length v.names) 100) (nat_lt v.awaited 100)) (good_name j low)
-      ∙ (ap (λ r. new_plan j (decimal p) true r (number_of (decimal p)) (nat_lt (length v.names) 100) (nat_lt v.awaited 100)) fresh
-      ∙ (ap (λ z. new_plan j (decimal p) true None z (nat_lt (length v.names) 100) (nat_lt v.awaited 100)) (place_read p place)
-      ∙ (ap (λ b. unless_refused (or_else (or_else None (or_else (unless NoSuchLocality b) None)) (or_else None (or_else (unless TooManyNames (nat_lt (length v.names) 100)) (unless TooManyPending (nat_lt v.awaited 100))))) (Calls (RootAt 3 at) 5 (GivenWord (codes "accumulator") ∷ []) (Bound (name j)))) (lt-ltb p n within)
-      ∙ (ap (λ b. unless_refused (or_else None (or_else None (or_else (unless TooManyNames b) (unless TooManyPending (nat_lt v.awaited 100))))) (Calls (RootAt 3 at) 5 (GivenWord (codes "accumulator") ∷ []) (Bound (name j)))) (lt-ltb (length v.names) 100 (omega arith))
-      ∙ ap (λ b. unless_refused (or_else None (unless TooManyPending b)) (Calls (RootAt 3 at) 5 (GivenWord (codes "accumulator") ∷ []) (Bound (name j)))) (lt-ltb v.awaited 100 (omega arith))))))) in
+      ∙ (ap (λ b. new_plan j (decimal p) b (new_refusal (status j)) number few_names room) (good_name j low)
+      ∙ (ap (λ r. new_plan j (decimal p) true r number few_names room) fresh
+      ∙ (ap (λ z. new_plan j (decimal p) true None z few_names room) (place_read p place)
+      ∙ (ap (λ b. unless_refused (or_else (or_else None (or_else (unless NoSuchLocality b) None)) (or_else None full)) (made_call j (decimal p))) (lt-ltb p n within)
+      ∙ (ap (λ b. unless_refused (or_else (unless TooManyNames b) (unless TooManyPending room)) (made_call j (decimal p))) (lt-ltb (length v.names) 100 (omega arith))
+      ∙ ap (λ b. unless_refused (unless TooManyPending b) (made_call j (decimal p))) (lt-ltb v.awaited 100 (omega arith))))))) in
       let made = new_made v at (name j) s.still in
       subst (λ plan. IsSound (plan_end Space v plan).plain (set xs j true)) (sym plan) (record {
         still = made.still;
