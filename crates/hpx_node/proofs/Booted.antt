@@ -40,15 +40,15 @@ pub boot_stands : (act_of : ℕ → ℕ → ℕ → State → Act → Outcome) (
 boot_stands act_of n here profile = search rules
 
 -- and so they stand at rest
-pub boot_at_rest : (r : Rules) (t : Tables) → t.came ≡ [] → t.desk ≡ [] → t.queued ≡ [] → t.stray ≡ [] → StandsWith r t [] [] [] → IsOrderly r t [] → Lacks t → MovesBegan r t [] → ArePlaced r t [] → IsFlowing r (at_rest t) [] → StandsAtRest r t []
-boot_at_rest r t came desk queued stray stands orderly lacks begun placed flowing = record {
+pub boot_at_rest : (r : Rules) (t : Tables) → t.came ≡ [] → t.outgoing ≡ [] → t.desk ≡ [] → t.queued ≡ [] → t.stray ≡ [] → StandsWith r t [] [] [] → IsOrderly r t [] → Lacks t → MovesBegan r t [] → ArePlaced r t [] → IsFlowing r (at_rest t) [] → StandsAtRest r t []
+boot_at_rest r t came outgoing desk queued stray stands orderly lacks begun placed flowing = record {
   stands = stands;
   orderly = orderly;
   lacks = lacks;
   begun = begun;
   placed = placed;
   flowing = flowing;
-  homes = boot_homes r t [] desk queued stray;
+  homes = boot_homes r t outgoing desk queued stray;
   bare = boot_bare t came;
   arrived = boot_arrived t came;
 }

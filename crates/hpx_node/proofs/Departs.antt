@@ -2,8 +2,7 @@
 use Rattle.std.proofs.lemmas.Bool.Decides.{nat_tests}
 use Rattle.hpx_node.proofs.Common.{Act, AllByRecursion, Bool, Entry, Go, HasRightCredit, Id, IfSome, IsKept, IsParcel, IsTidy, List, None, Option, Outcome, Parcel, Shipped, Some, Standing, Stands, State, Tables, Waits, acts_on, and_true, any_over, ap, arith, bare_act, cases_Bool, cond, eq-eqb, false, find, find_at, fired_acts, inl, inr, is_busy, is_some, is_standing, list_any, min, move_to, nat_le, nat_lt, not, refl, remove, rest_stands, slice_get, slice_get_less, some_same, subst, sym, target_of, true, waits_here, ℕ, ◌&&◌, ◌==◌, ◌||◌, ◌∙◌, ◌≡◌, ◌≤◌, ◌<◌}
 use Rattle.std.specs.Prelude.{◌≢◌}
-use Rattle.hpx_journal.specs.Entries.{is_movable, place_in}
-use Rattle.hpx_parcel.specs.Parcels.{IsMove}
+use Rattle.hpx_steps.proofs.Onward.{moves_somewhere}
 use Rattle.hpx_steps.proofs.Puts.{move_to-bare, target_big}
 use Rattle.hpx_steps.proofs.Tools.{among_at}
 use Rattle.hpx_steps.specs.Items.{Leaving, StandsHere}
@@ -13,20 +12,6 @@ use Rattle.hpx_node.proofs.Paused.{freed_whole}
 use Rattle.hpx_steps.specs.Mail.{with_mail}
 use Rattle.hpx_tables.specs.declared.kept.Arrival.{Arrival}
 use Rattle.hpx_node.specs.Behind.{is_done_with, may_leave, Departs}
-
--- a MOVE moves its target somewhere
-pub moves_somewhere : (act : Act) → IsMove act → (to : ℕ) × (move_to act ≡ Some to)
-moves_somewhere act fit =
-    let big = target_big act fit in
-    let low : nat_le 16 (target_of act).kind ≡ true = search (arith, nat_tests) in
-    let high : nat_le (target_of act).kind 31 ≡ true = search (arith, nat_tests) in
-    let lt : nat_lt fit.args.0 64 ≡ true = search (arith, nat_tests, fit.args.1) in (
-      fit.args.0,
-      ap (λ b. cond (b && is_movable (target_of act).kind) (place_in act.args) None) (eq-eqb act.code 1 fit.code)
-          ∙ (ap (λ b. cond (b && nat_le (target_of act).kind 31) (place_in act.args) None) low
-          ∙ (ap (λ b. cond b (place_in act.args) None) high
-          ∙ (ap place_in fit.args.2 ∙ ap (λ b. cond b (Some fit.args.0) None) lt))),
-    )
 
 -- a move that was granted, on whose object nothing is done: where it goes, and what goes with it
 pub record MayGo (t : Tables) (act : Act) (x : Standing) : Type 0 where

@@ -20,6 +20,7 @@ ghost use Rattle.hpx_steps.specs.Rows.{Row, Landeds, IsRowAt, goes, causes, hops
 ghost use Rattle.hpx_steps.specs.Rest.{grants_in, unpaid, StandsAtRest, StandsWith};
 ghost use Rattle.hpx_steps.specs.Sound.{SendsOwn, gone, grants_left, leads_on};
 ghost use Rattle.hpx_steps.specs.Frames.{IsSpelled};
+ghost use Rattle.hpx_steps.specs.Onward.{HaveGone};
 ghost use Rattle.hpx_tables.specs.Free.{NoneIsFree};
 ghost use Rattle.hpx_tables.specs.Jobs.{Starts, IsRunning};
 ghost use Rattle.hpx_node.specs.Handled.{Tends};
@@ -58,8 +59,11 @@ pub fn sleep_law()
 /// often than one came so or was refused here. Where the node is passive each dead object of its home was freed here or a Free of it
 /// was sent, and each Free that came has freed its object.
 /// Of moves: no more messages tell that an object has landed than MOVEs are done, from boot on and from any moment on at which the node
-/// was passive. Each frame goes the one way that its message may go. And an action on an object of this home goes on from here
-/// only after a move of the object from here was granted: it has left, unless the grant is still to be dealt with here.
+/// was passive. Each frame goes to where its message may go. An Apply, a Move or a Go is sent only where that had to go on, at some
+/// length of the part from which on it has waited here: its object did not stand here, or a MOVE of that from here waited, or it is one
+/// itself; and it is sent to the home of the object, or from the home to where the object was by what had come and was granted. And an
+/// action on an object of this home goes on from here only after a move of the object from here was granted: it has left, unless the
+/// grant is still to be dealt with here.
 pub fn idle_law()
     ensures boot { (r : Rules) (t : Tables) (entries : List Entry) → StandsWith r t [] [] entries → (row : Row) → IsRowAt t.localities t.here row →
         sum_by (λ (e : Entry). goes r row e.event) (part t.here entries) + unpaid row t
@@ -86,6 +90,7 @@ pub fn idle_law()
         ≤ moves_done (run_local r (at_boot r t.here) (part t.here (entries ++ later))) }
     ensures ways { (r : Rules) (t : Tables) (entries : List Entry) → StandsAtRest r t entries →
         AllByRecursion (λ (e : Entry). SendsOwn r t.localities t.here t.profile.credit_log e.event) (part t.here entries) }
+    ensures strict { (r : Rules) (t : Tables) (entries : List Entry) → StandsAtRest r t entries → HaveGone r t.here (part t.here entries) }
     ensures onward { (r : Rules) (t : Tables) (entries : List Entry) (o : Id) → StandsAtRest r t entries →
         1 ≤ sum_by (λ (e : Entry). gone r (leads_on t.here o) e.event) (part t.here entries) →
         1 ≤ sum_by (λ (e : Entry). grants_left o e.event) (part t.here entries) + grants_in o t }

@@ -1,5 +1,5 @@
 -- Where nothing is on its way, nothing waits and there is no record, no move has begun.
-use Rattle.hpx_steps.proofs.Common.{AllByRecursion, Among, Apply, ArePlaced, Arrival, Brought, EndsAt, Entry, Flow, Going, Id, IsFlowing, Leaving, List, MovesBegan, None, OnDesk, Outgoing, Parcel, Record, Rules, Shipped, Some, Stray, Tables, Waiting, [], act_in, ap, arith, at_rest, brought, false, find_record, flow, flow_of, grants_of_all, inl, inr, is_away, leads_on, moved_by, option_map_or, record_moves, record_rests, refl, subst, sum_by, sym, target_of, true, weigh, ◌+◌, ◌==◌, ◌∷◌, ◌≡◌, ◌≤◌, ◌⊎◌}
+use Rattle.hpx_steps.proofs.Common.{◌++◌, ◌∷◌, AllByRecursion, Among, Apply, ArePlaced, Arrival, Brought, EndsAt, Entry, Flow, Going, Id, IsFlowing, Leaving, List, MovesBegan, None, OnDesk, Outgoing, Parcel, Record, Rules, Shipped, Some, Stray, Tables, Waiting, [], act_in, ap, arith, at_rest, brought, false, find_record, flow, flow_of, grants_of_all, inl, inr, is_away, leads_on, moved_by, option_map_or, record_moves, record_rests, refl, subst, sum_by, sym, target_of, true, weigh, ◌+◌, ◌==◌, ◌∷◌, ◌≡◌, ◌≤◌, ◌⊎◌}
 use Rattle.hpx_steps.specs.Homes.{HasHomes}
 use Rattle.hpx_steps.proofs.Tools.{by_flows, zeros, bound_none}
 
@@ -48,13 +48,19 @@ boot_flowing r t records desk outgoing queued leaving stray came = record {
       zeros t.objects,
     )
 
--- and nothing waits for a place
-pub boot_homes : (r : Rules) (t : Tables) (entries : List Entry) → t.desk ≡ [] → t.queued ≡ [] → t.stray ≡ [] → HasHomes r (at_rest t) entries
-boot_homes r t entries desk queued stray = record {
+-- and nothing waits for a place, or has gone on
+pub boot_homes : (r : Rules) (t : Tables) → t.outgoing ≡ [] → t.desk ≡ [] → t.queued ≡ [] → t.stray ≡ [] → HasHomes r (at_rest t) []
+boot_homes r t outgoing desk queued stray = record {
   waits = λ w m. absurd (subst (Among w) queued m);
   own = λ p act brings m. absurd (none p m);
+  going = λ x act m carries. absurd (subst (Among x) outgoing m);
+  gone = λ before after e to bytes p act split. absurd (empty before after e split);
 }
   where
+    empty : (before after : List Entry) (e : Entry) → [] ≡ before ++ e ∷ after → ⊥
+    empty [] after e h = cc
+    empty (x ∷ xs) after e h = cc
+
     none : (p : Parcel) → Among p [] ⊎ (Among p t.desk ⊎ Among p t.stray) → ⊥
     none p (inl m) = m
     none p (inr (inl m)) = subst (Among p) desk m

@@ -1,28 +1,66 @@
 -- What waits for an object, and what is on the own desk: each step keeps what is known of them.
-use Rattle.hpx_steps.proofs.Common.{leaves_here, list_any, grants, Accept, Act, Among, Apply, AreRules, Arrived, Arrives, Ask, Asked, Bears, Begin, Bool, Born, Count, Done, Entry, Event, Fire, Free, Freed, Give, Given, Go, Granted, Id, In, IsFlowing, IsSound, Label, Landed, Left, Line, List, Looked, Mail, Mark, Merge, Move, None, Option, Out, Parcel, Park, Parks, Pause, Place, Print, Queue, Record, Recounts, Refused, Release, Reorder, Return, Returned, Rules, Sent, Shipped, Single, Some, Split, StandsFor, State, Step, Suspend, Tables, TakesBack, TakesUp, To, Turn, Up, Waiting, Way, Writes, [], act_in, ap, append_assoc, arith, bare, begins, cases_lt, comes_home, cond, credit, draws, drops, false, false_from, find_record, inl, inr, is_other, is_some, line_act, lowered, mails, mails_if, move_by, move_to, move_way, nat_lt, not, parcel_for, part, posts, queues, raised, record_here, refl, same_object, same_object-true, sends, some_same, stays_here, subst, sym, target_of, true, view, waits, way, way_by, way_of, way_to, with_act, with_last, with_records, with_way, without_first, wrote, ℕ, ◌&&◌, ◌++◌, ◌+◌, ◌-◌, ◌<◌, ◌==◌, ◌^◌, ◌||◌, ◌∙◌, ◌∷◌, ◌≡◌, ◌≤◌, ◌⊎◌}
+use Rattle.hpx_steps.proofs.Common.{HasPlaces, IsTidy, Outgoing, append-nil, going, goes_away, leaves_here, list_any, grants, Accept, Act, Among, Apply, AreRules, Arrived, Arrives, Ask, Asked, Bears, Begin, Bool, Born, Count, Done, Entry, Event, Fire, Free, Freed, Give, Given, Go, Granted, Id, In, IsFlowing, IsSound, Label, Landed, Left, Line, List, Looked, Mail, Mark, Merge, Move, None, Option, Out, Parcel, Park, Parks, Pause, Place, Print, Queue, Record, Recounts, Refused, Release, Reorder, Return, Returned, Rules, Sent, Shipped, Single, Some, Split, StandsFor, State, Step, Suspend, Tables, TakesBack, TakesUp, To, Turn, Up, Waiting, Way, Writes, [], act_in, ap, append_assoc, arith, bare, begins, cases_lt, comes_home, cond, credit, draws, drops, false, false_from, find_record, inl, inr, is_other, is_some, line_act, lowered, mails, mails_if, move_by, move_to, move_way, nat_lt, not, parcel_for, part, posts, queues, raised, record_here, refl, same_object, same_object-true, sends, some_same, stays_here, subst, sym, target_of, true, view, waits, way, way_by, way_of, way_to, with_act, with_last, with_records, with_way, without_first, wrote, ℕ, ◌&&◌, ◌++◌, ◌+◌, ◌-◌, ◌<◌, ◌==◌, ◌^◌, ◌||◌, ◌∙◌, ◌∷◌, ◌≡◌, ◌≤◌, ◌⊎◌}
 use Rattle.hpx_value.specs.declared.profile.Profile.{Profile}
 use Rattle.hpx_steps.proofs.ByRows.{if_so}
 use Rattle.hpx_steps.proofs.Changes.{among_either, first_leaves, last_comes}
 use Rattle.hpx_steps.proofs.Puts.{Goes, as_parcel, remade_others, remade_own, root_stays, way_goes}
+use Rattle.hpx_steps.proofs.Onward.{IsBound, gone_more, had_more, had_now, out_had, sent_bound, waits_now}
 use Rattle.hpx_steps.proofs.Stranded.{IsStranded, stranded_now, way_strands}
 use Rattle.hpx_steps.specs.Homes.{HasHomes, IsOwnMail, WaitsWell, WasStranded}
-use Rattle.hpx_steps.specs.Steps.{Settle, Settles}
+use Rattle.hpx_steps.specs.Onward.{Carries, HadToGo, HaveGone, WaitsAt}
+use Rattle.hpx_steps.specs.Steps.{GoesOut, Settle, Settles}
 use Rattle.hpx_value.specs.Values.{named}
 
 -- a message brings an action that has no place to go, or none
 abbrev pub Strands : Tables → Parcel → Type 0
 Strands t p = (act : Act) → (p ≡ Apply act) ⊎ (p ≡ Move act) → IsStranded t (target_of act)
 
--- one step: what waits then waits well, and what comes onto the own desk has no place to go
+-- one step: what waits then waits well, what comes onto the own desk has no place to go, and what is on its way has to go there
 pub record Homes (s s' : Turn) : Type 0 where
   pub waits : (w : Waiting Parcel) → Among w s'.tables.queued → WaitsWell s' w
   pub own : (p : Parcel) → IsOwnMail s' p → IsOwnMail s p ⊎ Strands s'.tables p
+  pub going : (x : Outgoing) (act : Act) → Among x s'.tables.outgoing → Carries act x.parcel → Among x s.tables.outgoing ⊎ IsBound s'.tables x.to act
+
+-- an entry is written, or none; a frame goes out with one as it is told
+pub data Adds (r : Rules) (s s' : Turn) : List Entry → Type 0 where
+  NoEntry : Adds r s s' []
+  OneEntry : (e : Entry) → ((to : ℕ) (bytes : List ℕ) → e.event ≡ Out to bytes → GoesOut r s to bytes s') → Adds r s s' (e ∷ [])
+
+-- what was on its way is so still, and had to go there
+module _ (r : Rules) (s s' : Turn) (entries entries' : List Entry) (h : HasHomes r s (part s.tables.here entries)) (k : Homes s s')
+    (places : HasPlaces s'.tables.here s'.tables.births s'.tables.objects s'.tables.records s'.tables.leaving) (tidy : IsTidy s') (here : s'.tables.here ≡ s.tables.here)
+    (rules : AreRules r s'.tables) (keeps : StandsFor r (view s') entries') (flowing : IsFlowing r s' (part s'.tables.here entries')) where
+  going_then : (more : List Entry) → Adds r s s' more → part s'.tables.here entries' ≡ part s.tables.here entries ++ more → (x : Outgoing) (act : Act) → Among x s'.tables.outgoing
+      → Carries act x.parcel → HadToGo r s'.tables.here x.to (part s'.tables.here entries') act
+  going_then more adds grown x act m c = elim (k.going x act m c) [
+    | inl was ↦ each more adds grown (h.going x act was c)
+    | inr now ↦ had_now r s' entries' rules keeps places flowing tidy x act c m now
+  ]
+    where
+      waits : WaitsAt r s'.tables.here (part s'.tables.here entries') act
+      waits = waits_now r s' entries' rules keeps places flowing tidy x act c m
+
+      each : (more : List Entry) → Adds r s s' more → part s'.tables.here entries' ≡ part s.tables.here entries ++ more → HadToGo r s.tables.here x.to (part s.tables.here entries) act
+          → HadToGo r s'.tables.here x.to (part s'.tables.here entries') act
+      each _ NoEntry grown was = subst (λ (j : ℕ). HadToGo r j x.to (part s'.tables.here entries') act) (sym here)
+          (subst (λ es. HadToGo r s.tables.here x.to es act) (sym (grown ∙ append-nil (part s.tables.here entries))) was)
+      each _ (OneEntry e out) grown was = subst (λ (j : ℕ). HadToGo r j x.to (part s'.tables.here entries') act) (sym here)
+          (subst (λ es. HadToGo r s.tables.here x.to es act) (sym grown) (had_more r s.tables.here x.to (part s.tables.here entries) e act was
+          (subst (λ (j : ℕ). WaitsAt r j (part s.tables.here entries ++ e ∷ []) act) here (subst (λ es. WaitsAt r s'.tables.here es act) grown waits))))
+
+  gone_then : (more : List Entry) → Adds r s s' more → part s'.tables.here entries' ≡ part s.tables.here entries ++ more → HaveGone r s'.tables.here (part s'.tables.here entries')
+  gone_then _ NoEntry grown = subst (λ (j : ℕ). HaveGone r j (part s'.tables.here entries')) (sym here)
+      (subst (HaveGone r s.tables.here) (sym (grown ∙ append-nil (part s.tables.here entries))) h.gone)
+  gone_then _ (OneEntry e out) grown = subst (λ (j : ℕ). HaveGone r j (part s'.tables.here entries')) (sym here)
+      (subst (HaveGone r s.tables.here) (sym grown) (gone_more r s.tables.here (part s.tables.here entries) e h.gone
+      (λ to bytes p act is spelled c. out_had r s s' (part s.tables.here entries) to bytes p act (out to bytes is) spelled c h.going)))
 
 -- so all have homes still
-pub homes_then : (r : Rules) (s s' : Turn) (entries entries' more : List Entry) → part s'.tables.here entries' ≡ part s.tables.here entries ++ more → s'.tables.here ≡ s.tables.here
-    → HasHomes r s (part s.tables.here entries) → Homes s s' → Single s'.tables.objects → AreRules r s'.tables → StandsFor r (view s') entries' → IsFlowing r s' (part s'.tables.here entries')
-    → HasHomes r s' (part s'.tables.here entries')
-homes_then r s s' entries entries' more grown here h k single rules keeps flowing = record {
+pub homes_then : (r : Rules) (s s' : Turn) (entries entries' more : List Entry) → Adds r s s' more → part s'.tables.here entries' ≡ part s.tables.here entries ++ more
+    → s'.tables.here ≡ s.tables.here → HasHomes r s (part s.tables.here entries) → Homes s s'
+    → HasPlaces s'.tables.here s'.tables.births s'.tables.objects s'.tables.records s'.tables.leaving → IsTidy s' → AreRules r s'.tables → StandsFor r (view s') entries'
+    → IsFlowing r s' (part s'.tables.here entries') → HasHomes r s' (part s'.tables.here entries')
+homes_then r s s' entries entries' more adds grown here h k places tidy rules keeps flowing = record {
   waits = k.waits;
   own = λ p act brings is. elim (k.own p is) [
     | inl was ↦
@@ -34,38 +72,46 @@ homes_then r s s' entries entries' more grown here h k single rules keeps flowin
           waits = o.waits;
           lost = o.lost;
         })
-    | inr now ↦ stranded_now r s' entries' rules keeps single flowing p act brings is (now act brings)
+    | inr now ↦ stranded_now r s' entries' rules keeps places.single flowing p act brings is (now act brings)
   ];
+  going = going_then r s s' entries entries' h k places tidy here rules keeps flowing more adds grown;
+  gone = gone_then r s s' entries entries' h k places tidy here rules keeps flowing more adds grown;
 }
 
--- ---- messages that bring no action to its object
+-- ---- messages that carry no action to its object
 
 abbrev IsOther : Parcel → Type 0
-IsOther p = (act : Act) → (p ≡ Apply act) ⊎ (p ≡ Move act) → ⊥
+IsOther p = (act : Act) → Carries act p → ⊥
 
 other_return : (id : Id) → IsOther (Return id)
 other_return id act (inl e) = cc
-other_return id act (inr e) = cc
+other_return id act (inr (inl e)) = cc
+other_return id act (inr (inr e)) = cc
 
 other_ask : (id : Id) (asker entry : ℕ) → IsOther (Ask id asker entry)
 other_ask id asker entry act (inl e) = cc
-other_ask id asker entry act (inr e) = cc
+other_ask id asker entry act (inr (inl e)) = cc
+other_ask id asker entry act (inr (inr e)) = cc
 
 other_give : (id : Id) (entry : ℕ) → IsOther (Give id entry)
 other_give id entry act (inl e) = cc
-other_give id entry act (inr e) = cc
+other_give id entry act (inr (inl e)) = cc
+other_give id entry act (inr (inr e)) = cc
 
 other_arrived : (id : Id) (place : ℕ) → IsOther (Arrived id place)
 other_arrived id place act (inl e) = cc
-other_arrived id place act (inr e) = cc
+other_arrived id place act (inr (inl e)) = cc
+other_arrived id place act (inr (inr e)) = cc
 
 other_free : (o : Id) → IsOther (Free o)
 other_free o act (inl e) = cc
-other_free o act (inr e) = cc
+other_free o act (inr (inl e)) = cc
+other_free o act (inr (inr e)) = cc
 
 other_object : (a : Act) (state : State) → IsOther (Shipped a state)
 other_object a state act (inl e) = cc
-other_object a state act (inr e) = cc
+other_object a state act (inr (inl e)) = cc
+other_object a state act (inr (inr e)) = cc
 
 -- one more on the desk
 own_more : (s s' : Turn) (b : Bool) (q : Parcel) → ((p : Parcel) → Among p s'.mailed → Among p s.mailed) → ((p : Parcel) → Among p s'.tables.stray → Among p s.tables.stray)
@@ -74,15 +120,36 @@ own_more s s' b q mailed stray desk other p (inl m) = inl (inl (mailed p m))
 own_more s s' b q mailed stray desk other p (inr (inr m)) = inl (inr (inr (stray p m)))
 own_more s s' b q mailed stray desk other p (inr (inl m)) = elim (among_either p s.tables.desk (cond b (q ∷ []) []) (subst (Among p) desk m)) [
   | inl was ↦ inl (inr (inl was))
-  | inr new ↦ inr (λ act brings. absurd (other act (is_q b new act brings)))
+  | inr new ↦ inr (λ act brings. absurd (other act (carries act (is_q b new act brings))))
 ]
   where
+    carries : (act : Act) → (q ≡ Apply act) ⊎ (q ≡ Move act) → Carries act q
+    carries act (inl e) = inl e
+    carries act (inr e) = inr (inl e)
+
     is_q : (b : Bool) → Among p (cond b (q ∷ []) []) → (act : Act) → (p ≡ Apply act) ⊎ (p ≡ Move act) → (q ≡ Apply act) ⊎ (q ≡ Move act)
     is_q true (inl e) act brings = subst (λ (x : Parcel). (x ≡ Apply act) ⊎ (x ≡ Move act)) (sym e) brings
     is_q true (inr n) act brings = absurd n
     is_q false n act brings = absurd n
 
+-- one more on its way
+away_more : (s s' : Turn) (b : Bool) (to : ℕ) (q : Parcel) → s'.tables.outgoing ≡ s.tables.outgoing ++ cond b (going to q ∷ []) [] → IsOther q → (x : Outgoing) (act : Act)
+    → Among x s'.tables.outgoing → Carries act x.parcel → Among x s.tables.outgoing ⊎ IsBound s'.tables x.to act
+away_more s s' b to q outgoing other x act m c = elim (among_either x s.tables.outgoing (cond b (going to q ∷ []) []) (subst (Among x) outgoing m)) [
+  | inl was ↦ inl was
+  | inr new ↦ absurd (is_q b new)
+]
+  where
+    is_q : (b : Bool) → Among x (cond b (going to q ∷ []) []) → ⊥
+    is_q true (inl e) = other act (subst (λ (y : Outgoing). Carries act y.parcel) (sym e) c)
+    is_q true (inr n) = absurd n
+    is_q false n = absurd n
+
 -- as messages are sent
+sent_away_if : (b other : Bool) (to : ℕ) (q : Parcel) (xs : List Outgoing) → xs ++ cond b (cond other (going to q ∷ []) []) [] ≡ xs ++ cond (cond b other false) (going to q ∷ []) []
+sent_away_if true other to q xs = refl
+sent_away_if false other to q xs = refl
+
 sent_desk : (other : Bool) (q : Parcel) (desk : List Parcel) → desk ++ cond other [] (q ∷ []) ≡ desk ++ cond (cond other false true) (q ∷ []) []
 sent_desk true q desk = refl
 sent_desk false q desk = refl
@@ -144,7 +211,7 @@ module _ (s : Turn) (entries : List Entry) (r : Rules) (h : IsSound r s entries)
   -- from tables that differ in what has no part in its way
   module _ (b s' : Turn) (act : Act) (here : b.tables.here ≡ s.tables.here) (localities : b.tables.localities ≡ s.tables.localities) (births : b.tables.births ≡ s.tables.births)
       (records : b.tables.records ≡ s.tables.records) (leaving : b.tables.leaving ≡ s.tables.leaving) (landed : b.landed ≡ s.landed)
-      (queued : (w : Waiting Parcel) → Among w b.tables.queued → Among w s.tables.queued) (desk : b.tables.desk ≡ s.tables.desk) (stray : b.tables.stray ≡ s.tables.stray)
+      (queued : (w : Waiting Parcel) → Among w b.tables.queued → Among w s.tables.queued) (outgoing : b.tables.outgoing ≡ s.tables.outgoing) (desk : b.tables.desk ≡ s.tables.desk) (stray : b.tables.stray ≡ s.tables.stray)
       (mailed : (p : Parcel) → Among p b.mailed → Among p s.mailed) (tables : s'.tables ≡ with_act act b.tables) (mailed' : s'.mailed ≡ b.mailed) (landed' : s'.landed ≡ b.landed) where
     abbrev t : Tables
     t = b.tables
@@ -250,8 +317,15 @@ module _ (s : Turn) (entries : List Entry) (r : Rules) (h : IsSound r s entries)
     posted = record {
       waits = λ w m. waits_by w (way t act) refl (subst (λ (u : Tables). Among w u.queued) tables m);
       own = own;
+      going = going_by;
     }
       where
+        going_by : (x : Outgoing) (a : Act) → Among x s'.tables.outgoing → Carries a x.parcel → Among x s.tables.outgoing ⊎ IsBound s'.tables x.to a
+        going_by x a m c = elim (among_either x t.outgoing (goes_away t (sends (way t act) act)) (subst (λ (u : Tables). Among x u.outgoing) tables m)) [
+          | inl was ↦ inl (subst (Among x) outgoing was)
+          | inr new ↦ inr (subst (λ (u : Tables). IsBound u x.to a) (sym tables) (sent_bound t act a x (way t act) refl new c))
+        ]
+
         own : (p : Parcel) → IsOwnMail s' p → IsOwnMail s p ⊎ Strands s'.tables p
         own p (inl m) = inl (inl (mailed p (subst (Among p) mailed' m)))
         own p (inr (inr m)) = inl (inr (inr (subst (Among p) stray (subst (λ (u : Tables). Among p u.stray) tables m))))
@@ -274,19 +348,21 @@ module _ (s : Turn) (entries : List Entry) (r : Rules) (h : IsSound r s entries)
       }
 
   -- where nothing changes of what waits, and nothing comes onto the own desk
-  quiet : (s' : Turn) → s'.tables.queued ≡ s.tables.queued → s'.tables.records ≡ s.tables.records → s'.tables.births ≡ s.tables.births → s'.landed ≡ s.landed
+  quiet : (s' : Turn) → ((x : Outgoing) → Among x s'.tables.outgoing → Among x s.tables.outgoing) → s'.tables.queued ≡ s.tables.queued → s'.tables.records ≡ s.tables.records → s'.tables.births ≡ s.tables.births → s'.landed ≡ s.landed
       → ((p : Parcel) → IsOwnMail s' p → IsOwnMail s p) → Homes s s'
-  quiet s' queued records births landed own = record {
+  quiet s' outgoing queued records births landed own = record {
     waits = same_waits s' queued records (omega (arith, births)) landed;
     own = λ p m. inl (own p m);
+    going = λ x act m c. inl (outgoing x m);
   }
 
   -- where a message is sent that brings no action
-  mailing : (s' : Turn) (b : Bool) (q : Parcel) → s'.tables.queued ≡ s.tables.queued → s'.tables.records ≡ s.tables.records → s'.tables.births ≡ s.tables.births → s'.landed ≡ s.landed
+  mailing : (s' : Turn) (b away : Bool) (to : ℕ) (q : Parcel) → s'.tables.outgoing ≡ s.tables.outgoing ++ cond away (going to q ∷ []) [] → s'.tables.queued ≡ s.tables.queued → s'.tables.records ≡ s.tables.records → s'.tables.births ≡ s.tables.births → s'.landed ≡ s.landed
       → ((p : Parcel) → Among p s'.mailed → Among p s.mailed) → s'.tables.stray ≡ s.tables.stray → s'.tables.desk ≡ s.tables.desk ++ cond b (q ∷ []) [] → IsOther q → Homes s s'
-  mailing s' b q queued records births landed mailed stray desk other = record {
+  mailing s' b away to q outgoing queued records births landed mailed stray desk other = record {
     waits = same_waits s' queued records (omega (arith, births)) landed;
     own = own_more s s' b q mailed (λ p m. subst (Among p) stray m) desk other;
+    going = away_more s s' away to q outgoing other;
   }
 
   none_mailed : (p : Parcel) → Among p [] → Among p s.mailed
@@ -330,6 +406,7 @@ module _ (s : Turn) (entries : List Entry) (r : Rules) (h : IsSound r s entries)
     waits = recounted (wrote e (mails asker q (with_records records (drops s)))) id old (Some made) k refl refl
         (λ x w is own was. same_record old x (sym (ap (λ (y : Record). y.moving) (some_same made x is)) ∙ same) w was) (λ o just. just);
     own = own_more s (wrote e (mails asker q (with_records records (drops s)))) (cond (is_other s.tables asker) false true) q none_mailed (λ p m. m) (sent_desk (is_other s.tables asker) q s.tables.desk) other;
+    going = away_more s (wrote e (mails asker q (with_records records (drops s)))) (is_other s.tables asker) asker q refl other;
   }
 
   taken_back : (s' : Turn) (o : Id) (count log : ℕ) → TakesBack s o count log s' → Homes s s'
@@ -338,6 +415,8 @@ module _ (s : Turn) (entries : List Entry) (r : Rules) (h : IsSound r s entries)
         (λ x w is own was. same_record g.old x (lowered_moving g.old x g.id is) w was) (λ o just. just);
     own = own_more s (wrote (Count o count (Returned log)) (mails_if (count == 0) g.old.place (Free (bare g.id)) (with_records g.records (drops s)))) (cond (count == 0) (cond (is_other s.tables g.old.place) false true) false) (Free (bare g.id)) none_mailed (λ p m. m)
         (sent_desk_if (count == 0) (is_other s.tables g.old.place) (Free (bare g.id)) s.tables.desk) (other_free (bare g.id));
+    going = away_more s (wrote (Count o count (Returned log)) (mails_if (count == 0) g.old.place (Free (bare g.id)) (with_records g.records (drops s))))
+        (cond (count == 0) (is_other s.tables g.old.place) false) g.old.place (Free (bare g.id)) (sent_away_if (count == 0) (is_other s.tables g.old.place) g.old.place (Free (bare g.id)) s.tables.outgoing) (other_free (bare g.id));
   })
 
   arrived : (s' : Turn) (o : Id) (count log : ℕ) → Arrives s o count log s' → Homes s s'
@@ -347,6 +426,8 @@ module _ (s : Turn) (entries : List Entry) (r : Rules) (h : IsSound r s entries)
         (λ x w is own was. inr (ap (λ y. Some y) (same_object-true g.id (target_of (act_in w.item)) own))) (λ o just. absurd (let e : ◌≡◌ {A = Option Id} None (Some o) = sym g.alone ∙ just in cc));
     own = own_more s (wrote (Count o count (Returned log)) (mails_if (count == 0) g.place (Free (bare g.id)) (with_records g.records (record (drops s) { landed = Some (bare g.id) })))) (cond (count == 0) (cond (is_other s.tables g.place) false true) false) (Free (bare g.id)) none_mailed (λ p m. m)
         (sent_desk_if (count == 0) (is_other s.tables g.place) (Free (bare g.id)) s.tables.desk) (other_free (bare g.id));
+    going = away_more s (wrote (Count o count (Returned log)) (mails_if (count == 0) g.place (Free (bare g.id)) (with_records g.records (record (drops s) { landed = Some (bare g.id) }))))
+        (cond (count == 0) (is_other s.tables g.place) false) g.place (Free (bare g.id)) (sent_away_if (count == 0) (is_other s.tables g.place) g.place (Free (bare g.id)) s.tables.outgoing) (other_free (bare g.id));
   })
 
   bears : (s' : Turn) (o : Id) (state : State) → Bears s o state s' → Homes s s'
@@ -359,10 +440,11 @@ module _ (s : Turn) (entries : List Entry) (r : Rules) (h : IsSound r s entries)
               absurd (omega (arith, k.born, ap (λ (y : Id). y.number) (same_object-true (target_of (act_in w.item)) o same), ap (λ (y : Id). y.number) g.object)))) is);
         };
     own = λ p m. inl m;
+    going = λ x act m c. inl m;
   })
 
   takes_up : (s' : Turn) (kind : ℕ) → TakesUp s kind s' → Homes s s'
-  takes_up s' kind g = subst (Homes s) (sym g.now) (quiet _ refl refl refl refl own)
+  takes_up s' kind g = subst (Homes s) (sym g.now) (quiet _ (λ x m. m) refl refl refl refl own)
     where
       own : (p : Parcel) → Among p (g.parcel ∷ []) ⊎ (Among p g.rest ⊎ Among p s.tables.stray) → IsOwnMail s p
       own p (inl (inl e)) = inr (inl (subst (Among p) (sym g.first) (inl e)))
@@ -371,7 +453,7 @@ module _ (s : Turn) (entries : List Entry) (r : Rules) (h : IsSound r s entries)
       own p (inr (inr m)) = inr (inr m)
 
   parks : (s' : Turn) → Parks s s' → Homes s s'
-  parks s' g = subst (Homes s) (sym g.now) (record { waits = same_waits _ refl refl (omega arith) refl; own = own })
+  parks s' g = subst (Homes s) (sym g.now) (record { waits = same_waits _ refl refl (omega arith) refl; own = own; going = λ x act m c. inl m })
     where
       in_hand : (t : Tables) (p : Parcel) → g.parcel ≡ p → IsOwnMail s p ⊎ Strands t p
       in_hand t p e = elim g.hand [
@@ -403,30 +485,31 @@ module _ (s : Turn) (entries : List Entry) (r : Rules) (h : IsSound r s entries)
           ];
         };
     own = λ p m. inl m;
+    going = λ x act m c. inl m;
   })
 
   pub step_homes : (s' : Turn) (label : Label) → Step r s label s' → Homes s s'
   step_homes s' (Writes (Line a bytes)) g = subst (Homes s) (sym g.now)
-      (posted (draws s) (wrote (Line a bytes) (posts (line_act a bytes) (draws s))) (line_act a bytes) refl refl refl refl refl refl (λ w m. m) refl refl (λ p m. m) refl refl refl)
-  step_homes s' (Writes (Fire a)) g = subst (Homes s) (sym g.now) (quiet _ refl refl refl refl (λ p m. m))
-  step_homes s' (Writes (Split o log)) g = subst (Homes s) (sym g.now) (quiet _ refl refl refl refl (λ p m. m))
+      (posted (draws s) (wrote (Line a bytes) (posts (line_act a bytes) (draws s))) (line_act a bytes) refl refl refl refl refl refl (λ w m. m) refl refl refl (λ p m. m) refl refl refl)
+  step_homes s' (Writes (Fire a)) g = subst (Homes s) (sym g.now) (quiet _ (λ x m. m) refl refl refl refl (λ p m. m))
+  step_homes s' (Writes (Split o log)) g = subst (Homes s) (sym g.now) (quiet _ (λ x m. m) refl refl refl refl (λ p m. m))
   step_homes s' (Writes (Born o state)) g = bears s' o state g
-  step_homes s' (Writes (Done a false)) g = subst (Homes s) (sym g.now) (quiet _ refl refl refl refl (λ p m. m))
-  step_homes s' (Writes (Done a true)) g = subst (Homes s) (sym g.now) (quiet _ refl refl refl refl (λ p m. m))
+  step_homes s' (Writes (Done a false)) g = subst (Homes s) (sym g.now) (quiet _ (λ x m. m) refl refl refl refl (λ p m. m))
+  step_homes s' (Writes (Done a true)) g = subst (Homes s) (sym g.now) (quiet _ (λ x m. m) refl refl refl refl (λ p m. m))
   step_homes s' (Writes (Sent a)) g =
       let act = named s.tables.here (s.tables.serial + 1) g.message in subst (Homes s) (sym g.now)
-      (posted (draws (record s { due = g.rest })) (wrote (Sent a) (posts act (draws (record s { due = g.rest })))) act refl refl refl refl refl refl (λ w m. m) refl refl (λ p m. m) refl refl refl)
-  step_homes s' (Writes (Print bytes)) g = subst (Homes s) (sym g.now) (quiet _ refl refl refl refl (λ p m. m))
-  step_homes s' (Writes (Merge o log)) g = subst (Homes s) (sym g.now) (quiet _ refl refl refl refl (λ p m. m))
+      (posted (draws (record s { due = g.rest })) (wrote (Sent a) (posts act (draws (record s { due = g.rest })))) act refl refl refl refl refl refl (λ w m. m) refl refl refl (λ p m. m) refl refl refl)
+  step_homes s' (Writes (Print bytes)) g = subst (Homes s) (sym g.now) (quiet _ (λ x m. m) refl refl refl refl (λ p m. m))
+  step_homes s' (Writes (Merge o log)) g = subst (Homes s) (sym g.now) (quiet _ (λ x m. m) refl refl refl refl (λ p m. m))
   step_homes s' (Writes (Up o log)) g = elim g [
-    | inl k ↦ subst (Homes s) (sym k.now) (mailing _ (cond (is_other s.tables k.id.home) false true) (Return k.id) refl refl refl refl (λ p m. m) refl
+    | inl k ↦ subst (Homes s) (sym k.now) (mailing _ (cond (is_other s.tables k.id.home) false true) (is_other s.tables k.id.home) k.id.home (Return k.id) refl refl refl refl refl (λ p m. m) refl
         (sent_desk (is_other s.tables k.id.home) (Return k.id) s.tables.desk) (other_return k.id))
-    | inr k ↦ subst (Homes s) (sym k.now) (mailing _ (cond (is_other s.tables k.id.home) false true) (Arrived k.id s.tables.here) refl refl refl refl (λ p m. m) refl
+    | inr k ↦ subst (Homes s) (sym k.now) (mailing _ (cond (is_other s.tables k.id.home) false true) (is_other s.tables k.id.home) k.id.home (Arrived k.id s.tables.here) refl refl refl refl refl (λ p m. m) refl
         (sent_desk (is_other s.tables k.id.home) (Arrived k.id s.tables.here) s.tables.desk) (other_arrived k.id s.tables.here))
   ]
-  step_homes s' (Writes (Asked o)) g = subst (Homes s) (sym g.now) (mailing _ (cond (is_other s.tables g.id.home) false true) (Ask g.id s.tables.here (s.tables.asked + 1)) refl refl refl refl (λ p m. m) refl
+  step_homes s' (Writes (Asked o)) g = subst (Homes s) (sym g.now) (mailing _ (cond (is_other s.tables g.id.home) false true) (is_other s.tables g.id.home) g.id.home (Ask g.id s.tables.here (s.tables.asked + 1)) refl refl refl refl refl (λ p m. m) refl
       (sent_desk (is_other s.tables g.id.home) (Ask g.id s.tables.here (s.tables.asked + 1)) s.tables.desk) (other_ask g.id s.tables.here (s.tables.asked + 1)))
-  step_homes s' (Writes (Given o log)) g = subst (Homes s) (sym g.now) (quiet _ refl refl refl refl dropped)
+  step_homes s' (Writes (Given o log)) g = subst (Homes s) (sym g.now) (quiet _ (λ x m. m) refl refl refl refl dropped)
   step_homes s' (Writes (Count o count (Returned log))) g = elim g [
     | inl k ↦ taken_back s' o count log k
     | inr k ↦ arrived s' o count log k
@@ -434,25 +517,25 @@ module _ (s : Turn) (entries : List Entry) (r : Rules) (h : IsSound r s entries)
   step_homes s' (Writes (Count o count Granted)) g = subst (Homes s) (sym g.now) (answered (Count o count Granted) g.asker (Give (record g.id { log = Some s.tables.profile.credit_log }) g.entry) g.id g.old
       (raised s.tables.profile g.old) g.records g.recounts (raised_moving s.tables.profile g.old) (other_give (record g.id { log = Some s.tables.profile.credit_log }) g.entry))
   step_homes s' (Writes (Count o count Refused)) g = subst (Homes s) (sym g.now) (answered (Count o count Refused) g.asker (Give g.id g.entry) g.id g.old g.old g.records g.recounts refl (other_give g.id g.entry))
-  step_homes s' (Writes (Freed o)) g = subst (Homes s) (sym g.now) (quiet _ refl refl refl refl dropped)
+  step_homes s' (Writes (Freed o)) g = subst (Homes s) (sym g.now) (quiet _ (λ x m. m) refl refl refl refl dropped)
   step_homes s' (Writes (Mail kind)) g = takes_up s' kind g
-  step_homes s' (Writes (Out to bytes)) g = subst (Homes s) (sym g.now) (quiet _ refl refl refl refl (λ p m. m))
-  step_homes s' (Writes (In bytes)) g = subst (Homes s) (sym g.now) (quiet _ refl refl refl refl (λ p m. m))
-  step_homes s' (Writes (Left o to)) g = subst (Homes s) (sym g.now) (mailing _ (cond (is_other s.tables to) false true) (Shipped g.act g.x.state) refl refl refl refl (λ p m. m) refl
+  step_homes s' (Writes (Out to bytes)) g = subst (Homes s) (sym g.now) (quiet _ (λ x m. subst (Among x) (sym g.is) (inr m)) refl refl refl refl (λ p m. m))
+  step_homes s' (Writes (In bytes)) g = subst (Homes s) (sym g.now) (quiet _ (λ x m. m) refl refl refl refl (λ p m. m))
+  step_homes s' (Writes (Left o to)) g = subst (Homes s) (sym g.now) (mailing _ (cond (is_other s.tables to) false true) (is_other s.tables to) to (Shipped g.act g.x.state) refl refl refl refl refl (λ p m. m) refl
       (sent_desk (is_other s.tables to) (Shipped g.act g.x.state) s.tables.desk) (other_object g.act g.x.state))
-  step_homes s' (Writes (Landed o)) g = subst (Homes s) (sym g.now) (quiet _ refl refl refl refl dropped)
+  step_homes s' (Writes (Landed o)) g = subst (Homes s) (sym g.now) (quiet _ (λ x m. m) refl refl refl refl dropped)
   step_homes s' (Writes (Looked o found)) g = absurd g
-  step_homes s' Suspend g = subst (Homes s) (sym g.now) (quiet _ refl refl refl refl (λ p m. m))
-  step_homes s' Pause g = subst (Homes s) (sym g.now) (quiet _ refl refl refl refl (λ p m. m))
+  step_homes s' Suspend g = subst (Homes s) (sym g.now) (quiet _ (λ x m. m) refl refl refl refl (λ p m. m))
+  step_homes s' Pause g = subst (Homes s) (sym g.now) (quiet _ (λ x m. m) refl refl refl refl (λ p m. m))
   step_homes s' Place g = subst (Homes s) (sym g.now)
-      (posted (drops s) (posts g.act (drops s)) g.act refl refl refl refl refl refl (λ w m. m) refl refl none_mailed refl refl refl)
-  step_homes s' Mark g = subst (Homes s) (sym g.now) (quiet _ refl refl refl refl dropped)
+      (posted (drops s) (posts g.act (drops s)) g.act refl refl refl refl refl refl (λ w m. m) refl refl refl none_mailed refl refl refl)
+  step_homes s' Mark g = subst (Homes s) (sym g.now) (quiet _ (λ x m. m) refl refl refl refl dropped)
   step_homes s' Park g = parks s' g
   step_homes s' Release g = subst (Homes s) (sym g.now)
       (posted (record s { tables = record s.tables { queued = without_first g.number s.tables.queued } }) (posts g.act (record s { tables = record s.tables { queued = without_first g.number s.tables.queued } })) g.act
       refl refl refl refl refl refl (λ w m. elim ((first_leaves g.number g.first s.tables.queued g.there).there w m) [
         | inl k ↦ k
         | inr k ↦ absurd k
-      ]) refl refl (λ p m. m) refl refl refl)
+      ]) refl refl refl (λ p m. m) refl refl refl)
   step_homes s' Settle g = settles s' g
-  step_homes s' Reorder g = subst (Homes s) (sym g.now) (quiet _ refl refl refl refl (λ p m. m))
+  step_homes s' Reorder g = subst (Homes s) (sym g.now) (quiet _ (λ x m. m) refl refl refl refl (λ p m. m))

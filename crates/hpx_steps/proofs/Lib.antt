@@ -46,6 +46,7 @@ pub mod Given
 pub mod Unheld
 pub mod Freed
 pub mod Stranded
+pub mod Onward
 pub mod Homes
 pub mod Step
 pub mod AtRest

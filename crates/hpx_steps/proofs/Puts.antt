@@ -6,12 +6,9 @@ use Rattle.hpx_steps.specs.Frames.{IsGrantFor}
 use Rattle.hpx_steps.proofs.Mails.{mail_tidy, IsFlowless, flowless, own_is}
 use Rattle.hpx_steps.proofs.Records.{places_still, away_in}
 use Rattle.hpx_steps.proofs.Then.{Tracks, Says, Flows, all_flows, of_event}
+pub use Rattle.hpx_steps.specs.Onward.{Carries}
 
 -- ---- what it weighs
-
--- a message that carries an action to its object, or away with it
-abbrev pub Carries : Act → Parcel → Type 0
-Carries act p = (p ≡ Apply act) ⊎ ((p ≡ Move act) ⊎ (p ≡ Go act))
 
 -- an action as a message is an Apply or a Move
 pub as_parcel : (P : Parcel → Type 0) (act : Act) → P (Apply act) → P (Move act) → P (parcel_for act)

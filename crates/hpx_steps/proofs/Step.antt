@@ -1,6 +1,6 @@
 -- Each step keeps all that holds.
 use Rattle.hpx_steps.proofs.Common.{AreNumbered, Asked, Born, Count, Done, Entry, Event, Fire, Freed, Given, Granted, In, IsSound, Label, Landed, Left, Line, List, Looked, Mail, Mark, Merge, None, Out, Park, Pause, Place, Print, Refused, Release, Reorder, Returned, Rules, Sent, Split, Step, Steps, Suspend, Tables, Turn, Up, Writes, [], ap, append-nil, append_assoc, at_all, entry_at, false, inl, inr, map-append, part, refl, subst, sym, true, written, written_by, ◌++◌, ◌∙◌, ◌∷◌, ◌≡◌}
-use Rattle.hpx_steps.proofs.Homes.{Homes, homes_then, step_homes}
+use Rattle.hpx_steps.proofs.Homes.{Adds, Homes, NoEntry, OneEntry, homes_then, step_homes}
 use Rattle.hpx_steps.proofs.Still.{landed_sound}
 use Rattle.hpx_steps.proofs.Then.{grown}
 use Rattle.hpx_steps.specs.Steps.{Settle, Settles}
@@ -15,13 +15,15 @@ pub record Sound (r : Rules) (s s' : Turn) (entries : List Entry) (events : List
   pub sound : IsSound r s' (entries ++ at_all s.tables.here events)
   pub numbered : AreNumbered s → AreNumbered s'
 
-kept : (r : Rules) (s s' : Turn) (e : Event) (entries : List Entry) → IsSound r s entries → Homes s s' → Keeps r s s' e → Sound r s s' entries (e ∷ [])
-kept r s s' e entries h homes k = record {
+kept : (r : Rules) (s s' : Turn) (e : Event) (entries : List Entry) → IsSound r s entries → Step r s (Writes e) s' → Keeps r s s' e → Sound r s s' entries (e ∷ [])
+kept r s s' e entries h g k = record {
   here = k.counts.here;
   localities = k.counts.localities;
   profile = k.counts.profile;
   sound = sound_then r s s' e entries h k
-      (homes_then r s s' entries (entries ++ at_all s.tables.here (e ∷ [])) (at_all s.tables.here (e ∷ [])) (grown r s s' e entries h k) k.counts.here h.homes homes k.places.single);
+      (homes_then r s s' entries (entries ++ at_all s.tables.here (e ∷ [])) (at_all s.tables.here (e ∷ []))
+      (OneEntry (entry_at s.tables.here e) (λ to bytes is. subst (λ (x : Event). Step r s (Writes x) s') is g)) (grown r s s' e entries h k) k.counts.here h.homes
+      (step_homes s entries r h s' (Writes e) g) k.places k.tidy);
   numbered = k.numbered;
 }
 
@@ -30,8 +32,8 @@ still r s s' entries h homes k = record {
   here = ap (λ (t : Tables). t.here) k.same;
   localities = ap (λ (t : Tables). t.localities) k.same;
   profile = ap (λ (t : Tables). t.profile) k.same;
-  sound = subst (IsSound r s') (sym (append-nil entries)) (still_sound r s s' entries h k (homes_then r s s' entries entries []
-      (ap (λ (t : Tables). part t.here entries) k.same ∙ sym (append-nil (part s.tables.here entries))) (ap (λ (t : Tables). t.here) k.same) h.homes homes k.places.single));
+  sound = subst (IsSound r s') (sym (append-nil entries)) (still_sound r s s' entries h k (homes_then r s s' entries entries [] NoEntry
+      (ap (λ (t : Tables). part t.here entries) k.same ∙ sym (append-nil (part s.tables.here entries))) (ap (λ (t : Tables). t.here) k.same) h.homes homes k.places k.tidy));
   numbered = k.numbered;
 }
 
@@ -41,41 +43,41 @@ settled r s s' entries h g = subst (λ x. Sound r s x entries []) (sym g.now) (r
   here = refl;
   localities = refl;
   profile = refl;
-  sound = subst (IsSound r (record s { landed = None })) (sym (append-nil entries)) (landed_sound r s None entries h (homes_then r s (record s { landed = None }) entries entries []
-      (sym (append-nil (part s.tables.here entries))) refl h.homes (subst (Homes s) g.now (step_homes s entries r h s' Settle g)) h.places.single
+  sound = subst (IsSound r (record s { landed = None })) (sym (append-nil entries)) (landed_sound r s None entries h (homes_then r s (record s { landed = None }) entries entries [] NoEntry
+      (sym (append-nil (part s.tables.here entries))) refl h.homes (subst (Homes s) g.now (step_homes s entries r h s' Settle g)) h.places h.tidy
       (record { localities = h.rules.localities; credit_log = h.rules.credit_log; credit_limit = h.rules.credit_limit }) h.keeps
       (record { flows = h.flowing.flows; ends = h.flowing.ends; near = h.flowing.near })));
   numbered = λ once. once;
 })
 
 pub step_sound : (r : Rules) (s s' : Turn) (label : Label) (entries : List Entry) → IsSound r s entries → Step r s label s' → Sound r s s' entries (written_by label)
-step_sound r s s' (Writes (Line a bytes)) entries h g = kept r s s' (Line a bytes) entries h (step_homes s entries r h s' (Writes (Line a bytes)) g) (Rattle.hpx_steps.proofs.Line.line_step r s s' entries a bytes h g)
-step_sound r s s' (Writes (Fire a)) entries h g = kept r s s' (Fire a) entries h (step_homes s entries r h s' (Writes (Fire a)) g) (Rattle.hpx_steps.proofs.Fire.fire_step r s s' entries a h g)
-step_sound r s s' (Writes (Split o log)) entries h g = kept r s s' (Split o log) entries h (step_homes s entries r h s' (Writes (Split o log)) g) (Rattle.hpx_steps.proofs.Split.split_step r s s' entries o log h g)
-step_sound r s s' (Writes (Born o state)) entries h g = kept r s s' (Born o state) entries h (step_homes s entries r h s' (Writes (Born o state)) g) (Rattle.hpx_steps.proofs.Bear.bear_step r s s' entries o state h g)
-step_sound r s s' (Writes (Done a false)) entries h g = kept r s s' (Done a false) entries h (step_homes s entries r h s' (Writes (Done a false)) g) (Rattle.hpx_steps.proofs.Ending.done_step r s s' entries a h g)
-step_sound r s s' (Writes (Done a true)) entries h g = kept r s s' (Done a true) entries h (step_homes s entries r h s' (Writes (Done a true)) g) (Rattle.hpx_steps.proofs.Ending.failed_step r s s' entries a h g)
-step_sound r s s' (Writes (Sent a)) entries h g = kept r s s' (Sent a) entries h (step_homes s entries r h s' (Writes (Sent a)) g) (Rattle.hpx_steps.proofs.Sent.sent_step r s s' entries a h g)
-step_sound r s s' (Writes (Print bytes)) entries h g = kept r s s' (Print bytes) entries h (step_homes s entries r h s' (Writes (Print bytes)) g) (Rattle.hpx_steps.proofs.Print.print_step r s s' entries bytes h g)
-step_sound r s s' (Writes (Merge o log)) entries h g = kept r s s' (Merge o log) entries h (step_homes s entries r h s' (Writes (Merge o log)) g) (Rattle.hpx_steps.proofs.Merge.merge_step r s s' entries o log h g)
-step_sound r s s' (Writes (Up o log)) entries h g = kept r s s' (Up o log) entries h (step_homes s entries r h s' (Writes (Up o log)) g) (elim g [
+step_sound r s s' (Writes (Line a bytes)) entries h g = kept r s s' (Line a bytes) entries h g (Rattle.hpx_steps.proofs.Line.line_step r s s' entries a bytes h g)
+step_sound r s s' (Writes (Fire a)) entries h g = kept r s s' (Fire a) entries h g (Rattle.hpx_steps.proofs.Fire.fire_step r s s' entries a h g)
+step_sound r s s' (Writes (Split o log)) entries h g = kept r s s' (Split o log) entries h g (Rattle.hpx_steps.proofs.Split.split_step r s s' entries o log h g)
+step_sound r s s' (Writes (Born o state)) entries h g = kept r s s' (Born o state) entries h g (Rattle.hpx_steps.proofs.Bear.bear_step r s s' entries o state h g)
+step_sound r s s' (Writes (Done a false)) entries h g = kept r s s' (Done a false) entries h g (Rattle.hpx_steps.proofs.Ending.done_step r s s' entries a h g)
+step_sound r s s' (Writes (Done a true)) entries h g = kept r s s' (Done a true) entries h g (Rattle.hpx_steps.proofs.Ending.failed_step r s s' entries a h g)
+step_sound r s s' (Writes (Sent a)) entries h g = kept r s s' (Sent a) entries h g (Rattle.hpx_steps.proofs.Sent.sent_step r s s' entries a h g)
+step_sound r s s' (Writes (Print bytes)) entries h g = kept r s s' (Print bytes) entries h g (Rattle.hpx_steps.proofs.Print.print_step r s s' entries bytes h g)
+step_sound r s s' (Writes (Merge o log)) entries h g = kept r s s' (Merge o log) entries h g (Rattle.hpx_steps.proofs.Merge.merge_step r s s' entries o log h g)
+step_sound r s s' (Writes (Up o log)) entries h g = kept r s s' (Up o log) entries h g (elim g [
   | inl k ↦ Rattle.hpx_steps.proofs.Up.up_step r s s' entries o log h k
   | inr k ↦ Rattle.hpx_steps.proofs.Up.told_step r s s' entries o log h k
 ])
-step_sound r s s' (Writes (Asked o)) entries h g = kept r s s' (Asked o) entries h (step_homes s entries r h s' (Writes (Asked o)) g) (Rattle.hpx_steps.proofs.Asked.asked_step r s s' entries o h g)
-step_sound r s s' (Writes (Given o log)) entries h g = kept r s s' (Given o log) entries h (step_homes s entries r h s' (Writes (Given o log)) g) (Rattle.hpx_steps.proofs.Given.given_step r s s' entries o log h g)
-step_sound r s s' (Writes (Count o count (Returned log))) entries h g = kept r s s' (Count o count (Returned log)) entries h (step_homes s entries r h s' (Writes (Count o count (Returned log))) g) (elim g [
+step_sound r s s' (Writes (Asked o)) entries h g = kept r s s' (Asked o) entries h g (Rattle.hpx_steps.proofs.Asked.asked_step r s s' entries o h g)
+step_sound r s s' (Writes (Given o log)) entries h g = kept r s s' (Given o log) entries h g (Rattle.hpx_steps.proofs.Given.given_step r s s' entries o log h g)
+step_sound r s s' (Writes (Count o count (Returned log))) entries h g = kept r s s' (Count o count (Returned log)) entries h g (elim g [
   | inl k ↦ Rattle.hpx_steps.proofs.Returned.returned_step r s s' entries o count log h k
   | inr k ↦ Rattle.hpx_steps.proofs.Returned.arrived_step r s s' entries o count log h k
 ])
-step_sound r s s' (Writes (Count o count Granted)) entries h g = kept r s s' (Count o count Granted) entries h (step_homes s entries r h s' (Writes (Count o count Granted)) g) (Rattle.hpx_steps.proofs.Answered.granted_step r s s' entries o count h g)
-step_sound r s s' (Writes (Count o count Refused)) entries h g = kept r s s' (Count o count Refused) entries h (step_homes s entries r h s' (Writes (Count o count Refused)) g) (Rattle.hpx_steps.proofs.Answered.refused_step r s s' entries o count h g)
-step_sound r s s' (Writes (Freed o)) entries h g = kept r s s' (Freed o) entries h (step_homes s entries r h s' (Writes (Freed o)) g) (Rattle.hpx_steps.proofs.Freed.freed_step r s s' entries o h g)
-step_sound r s s' (Writes (Mail kind)) entries h g = kept r s s' (Mail kind) entries h (step_homes s entries r h s' (Writes (Mail kind)) g) (Rattle.hpx_steps.proofs.Mail.mail_step r s s' entries kind h g)
-step_sound r s s' (Writes (Out to bytes)) entries h g = kept r s s' (Out to bytes) entries h (step_homes s entries r h s' (Writes (Out to bytes)) g) (Rattle.hpx_steps.proofs.Out.out_step r s s' entries to bytes h g)
-step_sound r s s' (Writes (In bytes)) entries h g = kept r s s' (In bytes) entries h (step_homes s entries r h s' (Writes (In bytes)) g) (Rattle.hpx_steps.proofs.In.in_step r s s' entries bytes h g)
-step_sound r s s' (Writes (Left o to)) entries h g = kept r s s' (Left o to) entries h (step_homes s entries r h s' (Writes (Left o to)) g) (Rattle.hpx_steps.proofs.Departed.left_step r s s' entries o to h g)
-step_sound r s s' (Writes (Landed o)) entries h g = kept r s s' (Landed o) entries h (step_homes s entries r h s' (Writes (Landed o)) g) (Rattle.hpx_steps.proofs.Landing.landed_step r s s' entries o h g)
+step_sound r s s' (Writes (Count o count Granted)) entries h g = kept r s s' (Count o count Granted) entries h g (Rattle.hpx_steps.proofs.Answered.granted_step r s s' entries o count h g)
+step_sound r s s' (Writes (Count o count Refused)) entries h g = kept r s s' (Count o count Refused) entries h g (Rattle.hpx_steps.proofs.Answered.refused_step r s s' entries o count h g)
+step_sound r s s' (Writes (Freed o)) entries h g = kept r s s' (Freed o) entries h g (Rattle.hpx_steps.proofs.Freed.freed_step r s s' entries o h g)
+step_sound r s s' (Writes (Mail kind)) entries h g = kept r s s' (Mail kind) entries h g (Rattle.hpx_steps.proofs.Mail.mail_step r s s' entries kind h g)
+step_sound r s s' (Writes (Out to bytes)) entries h g = kept r s s' (Out to bytes) entries h g (Rattle.hpx_steps.proofs.Out.out_step r s s' entries to bytes h g)
+step_sound r s s' (Writes (In bytes)) entries h g = kept r s s' (In bytes) entries h g (Rattle.hpx_steps.proofs.In.in_step r s s' entries bytes h g)
+step_sound r s s' (Writes (Left o to)) entries h g = kept r s s' (Left o to) entries h g (Rattle.hpx_steps.proofs.Departed.left_step r s s' entries o to h g)
+step_sound r s s' (Writes (Landed o)) entries h g = kept r s s' (Landed o) entries h g (Rattle.hpx_steps.proofs.Landing.landed_step r s s' entries o h g)
 step_sound r s s' (Writes (Looked o found)) entries h g = absurd g
 step_sound r s s' Suspend entries h g = still r s s' entries h (step_homes s entries r h s' Suspend g) (Rattle.hpx_steps.proofs.Suspend.suspend_step r s s' entries h g)
 step_sound r s s' Pause entries h g = still r s s' entries h (step_homes s entries r h s' Pause g) (Rattle.hpx_steps.proofs.Pause.pause_step r s s' entries h g)

@@ -117,6 +117,8 @@ rest_sound r s entries h = record {
   homes = record {
     waits = λ w m. let k = h.homes.waits w m in record { born = k.born; moves = k.moves };
     own = h.homes.own;
+    going = h.homes.going;
+    gone = h.homes.gone;
   };
   arrived = h.arrived;
   numbers = grind arith;

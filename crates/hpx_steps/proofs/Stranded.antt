@@ -111,7 +111,7 @@ among_split x (y ∷ ys) (inl e) = ([], ys, ap (λ z. z ∷ ys) e)
 among_split x (y ∷ ys) (inr h) = let k = among_split x ys h in (y ∷ k.0, k.1, ap (λ zs. y ∷ zs) k.2)
 
 -- what is in one of these is in all of them
-among_flat : (a : Act) (p : Parcel) (ps : List Parcel) → Among p ps → Among a (parcel_acts p) → Among a (flat_map parcel_acts ps)
+pub among_flat : (a : Act) (p : Parcel) (ps : List Parcel) → Among p ps → Among a (parcel_acts p) → Among a (flat_map parcel_acts ps)
 among_flat a p [] h m = absurd h
 among_flat a p (q ∷ qs) (inl e) m = among_left a (parcel_acts q) (flat_map parcel_acts qs) (subst (λ x. Among a (parcel_acts x)) (sym e) m)
 among_flat a p (q ∷ qs) (inr h) m = among_right a (parcel_acts q) (flat_map parcel_acts qs) (among_flat a p qs h m)
@@ -140,7 +140,7 @@ own_waits s p act brings is =
     here (inr k) = among_right p s.mailed (messages s.tables) (among_messages p s.tables k)
 
 -- what is seen to wait waits
-seen_waits : (xs ys : List Act) (a : Act) → Agree is_act xs ys → Among a ys → Among a xs
+pub seen_waits : (xs ys : List Act) (a : Act) → Agree is_act xs ys → Among a ys → Among a xs
 seen_waits xs ys a same m =
     let k = among_split a ys m in
     found_among (is_act (name_of a)) xs a (Agree-found is_act name_of means own xs k.0 k.1 a (subst (Agree is_act xs) k.2 same))
@@ -163,10 +163,10 @@ module _ (r : Rules) (s : Turn) (entries : List Entry) (rules : AreRules r s.tab
   abbrev es : List Entry
   es = part s.tables.here entries
 
-  stands_so : (o : Id) (l : Local) → Shows (view s) l → count_by (is_standing o) l.objects ≡ count_by (is_standing o) s.tables.objects
+  pub stands_so : (o : Id) (l : Local) → Shows (view s) l → count_by (is_standing o) l.objects ≡ count_by (is_standing o) s.tables.objects
   stands_so o l shows = shows.objects.objects.counts o ∙ map_sum (λ (x : Standing). one_if (is_standing o x)) bare_standing s.tables.objects
 
-  none_stands : (o : Id) → stands_here s.tables o ≡ false → count_by (is_standing o) s.tables.objects ≡ 0
+  pub none_stands : (o : Id) → stands_here s.tables o ≡ false → count_by (is_standing o) s.tables.objects ≡ 0
   none_stands o h = each (find (is_standing o) s.tables.objects) refl h
     where
       each : (x : Option Standing) → find (is_standing o) s.tables.objects ≡ x → is_some x ≡ false → count_by (is_standing o) s.tables.objects ≡ 0

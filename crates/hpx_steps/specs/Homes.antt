@@ -12,9 +12,11 @@ use Rattle.hpx_part.specs.Parts.{at_boot}
 use Rattle.hpx_agas.specs.declared.record.Record.{Record}
 use Rattle.hpx_agas.specs.declared.record.Waiting.{Waiting}
 use Rattle.hpx_tables.specs.Kept.{record_here}
+use Rattle.hpx_tables.specs.declared.kept.Outgoing.{Outgoing}
 use Rattle.hpx_steps.specs.Calls.{act_in}
 use Rattle.hpx_steps.specs.Flows.{PlacedAt, dies, flow_comes, flow_goes}
 use Rattle.hpx_steps.specs.Items.{Among}
+use Rattle.hpx_steps.specs.Onward.{Carries, HadToGo, HaveGone}
 use Rattle.hpx_steps.specs.Turn.{Turn}
 
 -- an action waits for an object that was born, and whose record, as long as there is one, says that it moves; or that has landed just now
@@ -45,7 +47,10 @@ pub record WasStranded (r : Rules) (k : ℕ) (entries : List Entry) (act : Act) 
   pub waits : IsClean r (at_boot r k) before → Among (bare_act act) (run_local r (at_boot r k) before).waiting
   pub lost : IsClean r (at_boot r k) before → HasNoPlace r k (run_local r (at_boot r k) before) before (target_of act)
 
--- each action that waits for an object waits well, and each on the own desk had no place to go once it came there
+-- each action that waits for an object waits well, each on the own desk had no place to go once it came there, and each that is on its way to another
+-- locality, or went there, had to go on to there
 pub record HasHomes (r : Rules) (s : Turn) (entries : List Entry) : Type 0 where
   pub waits : (w : Waiting Parcel) → Among w s.tables.queued → WaitsWell s w
   pub own : (p : Parcel) (act : Act) → (p ≡ Apply act) ⊎ (p ≡ Move act) → IsOwnMail s p → WasStranded r s.tables.here entries act
+  pub going : (x : Outgoing) (act : Act) → Among x s.tables.outgoing → Carries act x.parcel → HadToGo r s.tables.here x.to entries act
+  pub gone : HaveGone r s.tables.here entries

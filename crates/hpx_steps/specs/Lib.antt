@@ -13,4 +13,5 @@ pub mod Limits
 pub mod Left
 pub mod Ways
 pub mod Flows
+pub mod Onward
 pub mod Homes

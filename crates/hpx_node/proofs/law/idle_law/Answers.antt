@@ -35,3 +35,6 @@ returns-clause-onward c = λ r t entries o stands some. onward_granted r t entri
 
 pub returns-clause-left : goal.returns-clause-left
 returns-clause-left c = λ r t entries o stands passive some. left_before r t entries o stands passive some
+
+pub returns-clause-strict : goal.returns-clause-strict
+returns-clause-strict c = λ r t entries stands. stands.homes.gone

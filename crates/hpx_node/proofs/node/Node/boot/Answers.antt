@@ -5,7 +5,7 @@ use Rattle.hpx_node.proofs.node.Node.boot.Goals as goal
 
 pub returns-clause-stands : goal.returns-clause-stands
 returns-clause-stands g c =
-    sound_at_rest _ (rules_of g.A.Acts.act_of c.localities-localities.result c.args.profile) [] (record { localities = refl; credit_log = refl; credit_limit = refl }) (boot_at_rest _ _ c.new-6.ensures.came c.new-4.ensures.items c.new-7.ensures.waiting c.new-6.ensures.stray (record {
+    sound_at_rest _ (rules_of g.A.Acts.act_of c.localities-localities.result c.args.profile) [] (record { localities = refl; credit_log = refl; credit_limit = refl }) (boot_at_rest _ _ c.new-6.ensures.came c.new-5.ensures.items c.new-4.ensures.items c.new-7.ensures.waiting c.new-6.ensures.stray (record {
       keeps = rw (
         c.new.ensures.items,
         c.new-2.ensures.items,
