@@ -30,7 +30,6 @@ pub mod Waited
 pub mod Strange
 pub mod Lacking
 pub mod Settled
-pub mod AtHome
 pub mod Tabled
 pub mod Near
 pub mod Traffic

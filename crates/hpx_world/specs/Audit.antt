@@ -8,7 +8,6 @@ use Rattle.hpx_journal.specs.Data.{Id}
 use Rattle.hpx_journal.specs.Entries.{Rules}
 use Rattle.hpx_journal.specs.Frames.{tokens_in}
 use Rattle.hpx_journal.specs.Local.{is_standing}
-use Rattle.hpx_journal.specs.Natives.{StandsAtHome}
 use Rattle.hpx_journal.specs.Tokens.{worth}
 use Rattle.hpx_journal.specs.Whole.{Space, recorded_in, part, replayed}
 use Rattle.hpx_tables.specs.Kept.{HasRecords, held_here, held_worth, owed_worth}
@@ -89,7 +88,3 @@ pub record StandsIn (n : ℕ) (w : Space) (o : Id) (k : ℕ) : Type 0 where
 -- each object that they tell of stands where they say
 abbrev pub StandWhereTold : Rules → List Entry → List AuditLine → Type 0
 StandWhereTold r es lines = AllByRecursion (λ (x : AuditLine). StandsIn r.localities (replayed r es) x.gid x.at) lines
-
--- each object that they tell of stands at its home, and so they tell
-abbrev pub StandAtHome : Rules → List Entry → List AuditLine → Type 0
-StandAtHome r es lines = AllByRecursion (λ (x : AuditLine). StandsAtHome r.localities (replayed r es) x.gid × (x.at ≡ x.gid.home)) lines

@@ -3,7 +3,6 @@ ghost use Rattle.std.specs.Prelude.{◌≡◌, ◌≢◌, ◌≤◌, ◌<◌, �
 ghost use Rattle.std.specs.List.{AllByRecursion};
 ghost use Rattle.hpx_value.specs.Profiles.{IsValid};
 ghost use Rattle.hpx_journal.specs.Weights.{HasRoom, total_weight};
-ghost use Rattle.hpx_journal.specs.Natives.{NothingMoves};
 ghost use Rattle.hpx_journal.specs.Whole.{IsCarried, part, replayed};
 ghost use Rattle.hpx_steps.specs.Rest.{IsPaid, StandsAtRest};
 ghost use Rattle.hpx_steps.specs.Limits.{IsWithin, AddsATurn};
@@ -13,7 +12,7 @@ ghost use Rattle.hpx_world.specs.Sound.{IsSound, IsSame};
 ghost use Rattle.hpx_world.specs.Away.{IsCarrying, Fetches, Puts, Keeps};
 ghost use Rattle.hpx_world.specs.Quiet.{IsQuiet, IsAtRest, NoneRuns, running_in};
 ghost use Rattle.hpx_world.specs.Promises.{KeepsPromises};
-ghost use Rattle.hpx_world.specs.Audit.{audit_lines, HaveRecords, AreOrdered, StandAtHome, StandWhereTold, IsAudit};
+ghost use Rattle.hpx_world.specs.Audit.{audit_lines, HaveRecords, AreOrdered, StandWhereTold, IsAudit};
 ghost use Rattle.hpx_world.specs.Stages.{stage};
 ghost use Rattle.hpx_world.specs.Steps.{IsUnfed};
 ghost use Rattle.hpx_world.specs.Refusals.{IsAsked, Did, Refused, IsApart, FeedsNoLine, CountsFaults, CanCome, RunsNothing, undone_of};
@@ -111,8 +110,6 @@ impl<A: Acts + Copy> World<A> {
         ensures ordered { IfOk result (λ lines. AreOrdered lines) }
         ensures tells { let r = rules_in A.act_of self.now in
             IsCarried r [] self.now.journal.entries → IfOk result (λ lines. IsAudit r self.now.journal.entries lines) }
-        ensures at_home { let r = rules_in A.act_of self.now in NothingMoves r →
-            IsCarried r [] self.now.journal.entries → IfOk result (λ lines. StandAtHome r self.now.journal.entries lines) }
         ensures stand { let r = rules_in A.act_of self.now in IsCarried r [] self.now.journal.entries →
             IsQuiet self.now.nodes self.now.hand → IfOk result (λ lines. StandWhereTold r self.now.journal.entries lines) }
     {
@@ -134,8 +131,6 @@ impl<A: Acts + Copy> World<A> {
         ensures ordered { AreOrdered (audit_lines self.now.nodes) }
         ensures audit { let r = rules_in A.act_of self.now in
             IsCarried r [] self.now.journal.entries → IsAudit r self.now.journal.entries (audit_lines self.now.nodes) }
-        ensures at_home { let r = rules_in A.act_of self.now in NothingMoves r →
-            IsCarried r [] self.now.journal.entries → StandAtHome r self.now.journal.entries (audit_lines self.now.nodes) }
         ensures stand { let r = rules_in A.act_of self.now in IsCarried r [] self.now.journal.entries →
             IsQuiet self.now.nodes self.now.hand → StandWhereTold r self.now.journal.entries (audit_lines self.now.nodes) }
         ensures sound { IsSound A.act_of self.now.profile self.now.nodes self.now.journal.entries }

@@ -4,7 +4,6 @@ use Rattle.hpx_journal.specs.Whole.{part}
 use Rattle.hpx_steps.specs.Rest.{IsPaid, rules_of}
 use Rattle.hpx_node.specs.Locality.{tables_of}
 use Rattle.hpx_world.specs.Audit.{audit_lines}
-use Rattle.hpx_world.proofs.AtHome.{at_home}
 use Rattle.hpx_world.proofs.Audited.{audited}
 use Rattle.hpx_world.proofs.Ordered.{ordered}
 use Rattle.hpx_world.proofs.Promised.{promised}
@@ -45,19 +44,6 @@ returns-clause-paid g c = rw (← c.self.view_is) (λ k t at.
 pub returns-clause-stands : goal.returns-clause-stands
 returns-clause-stands g c = rw (← c.self.view_is) (λ k t at.
     told_all g.A.Acts.act_of c.self.inside.locals.profile (tables_of c.self.inside.locals.nodes.items) c.self.inside.locals.journal.entries c.self.invariant.1 k t at)
-
-pub returns-clause-at_home : goal.returns-clause-at_home
-returns-clause-at_home g c = rw (← c.self.view_is) (λ still carried.
-    let sound = c.self.invariant.1 in
-    let nodes = (tables_of c.self.inside.locals.nodes.items) in
-    let profile = c.self.inside.locals.profile in
-    let entries = c.self.inside.locals.journal.entries in
-    let grammar = spells_well g.A.Acts.act_of (length nodes) profile in
-    let laws : KeepsActLaws (rules_of g.A.Acts.act_of (length (tables_of c.self.inside.locals.nodes.items)) c.self.inside.locals.profile) =
-    record { laws = λ kind here s a h state act. g.met.A.Acts.keeps_laws _ kind here s a sound.some sound.few h state act } in
-    at_home (rules_of g.A.Acts.act_of (length nodes) profile) entries grammar laws still
-    (promised g.A.Acts.act_of profile nodes entries c.self.invariant.1 grammar laws carried).ledger (audit_lines nodes)
-    (audited g.A.Acts.act_of profile nodes entries c.self.invariant.1 grammar carried c.self.invariant.2 c.records_law.ensures))
 
 pub returns-clause-stand : goal.returns-clause-stand
 returns-clause-stand g c = rw (← c.self.view_is) (λ carried quiet.
