@@ -118,12 +118,14 @@ module _ (r : Rules) (s : Local) (a : Name) (out : Outcome) (act : Act) (x : Sta
 
 -- ---- the locality after an entry
 
-pub entered : (r : Rules) (s s1 s2 : Local) (e l : Event) (taken given : List Token) → s1 ≡ besides r s e
-    → s2 ≡ record s1 { tokens = given ++ minus same_token s1.tokens taken } → taken ≡ takes r e → given ≡ gives r e → l ≡ e
-    → record s2 { last = Some l } ≡ after r s e
+-- tokens are traded and the entry is kept, whatever else an entry leaves
+closed : (s1 s2 b : Local) (e : Event) (taken given out added : List Token) → s1 ≡ b
+    → s2 ≡ record s1 { tokens = given ++ minus same_token s1.tokens taken; last = Some e } → taken ≡ out → given ≡ added
+    → s2 ≡ record b { tokens = added ++ minus same_token b.tokens out; last = Some e }
+closed s1 s2 b e taken given out added i j t g = rw (j, i, t, g) refl
+
+pub entered : (r : Rules) (s s1 s2 : Local) (e : Event) (taken given : List Token) → s1 ≡ besides r s e
+    → s2 ≡ record s1 { tokens = given ++ minus same_token s1.tokens taken; last = Some e } → taken ≡ takes r e → given ≡ gives r e
+    → s2 ≡ after r s e
 unfolding after
-entered r s s1 s2 e l taken given i j t g m =
-    let at : List Token → List Token → Local → Local = λ xs ys x. record x { tokens = ys ++ minus same_token x.tokens xs } in
-    let last : Event → Local → Local = λ k x. record x { last = Some k } in
-    ap (λ k. last k s2) m
-    ∙ ap (last e) (j ∙ (ap (at taken given) i ∙ (ap (λ xs. at xs given (besides r s e)) t ∙ ap (λ ys. at (takes r e) ys (besides r s e)) g)))
+entered r s s1 s2 e taken given i j t g = closed s1 s2 (besides r s e) e taken given (takes r e) (gives r e) i j t g

@@ -1,5 +1,6 @@
 //! One entry, at its locality: whether it is allowed, and what it leaves.
-ghost use Rattle.std.specs.Prelude.{◌≡◌, ◌≤◌, ◌↔◌, ◌++◌, ℕ, IsTrue, IfOk, OnOk, None};
+ghost use Rattle.std.specs.Prelude.{◌≡◌, ◌≤◌, ◌↔◌, ◌++◌, ℕ, IsTrue, IfOk, OnOk, IfSome, Some, None};
+ghost use Rattle.std.specs.Option.{is_some};
 ghost use Rattle.std.specs.List.{AllByRecursion};
 ghost use Rattle.hpx_value.specs.Profiles.{IsValid};
 ghost use Rattle.hpx_journal.specs.Rows.{TurnAllows, Row, objects_in};
@@ -7,7 +8,7 @@ ghost use Rattle.hpx_replay.specs.Spaces.{Meaning, MayWrite, MayEnter, rules_of,
 ghost use Rattle.hpx_journal.specs.Frames.{cargo_of, parcel_in};
 ghost use Rattle.hpx_journal.specs.Bags.{minus, Covers};
 ghost use Rattle.hpx_journal.specs.Tokens.{same_token};
-ghost use Rattle.hpx_journal.specs.Local.{after};
+ghost use Rattle.hpx_journal.specs.Local.{takes, gives, after};
 
 use crate::act_rows::{commit_row, fire_row, line_row, print_row, sent_row};
 use crate::changes::{accept, born, commit, fire, given, landed, left, line, print, send, sent};
@@ -108,13 +109,25 @@ pub(crate) fn read<A: Acts>(
     ensures { IfOk result (λ x. (p : _) → x ≡ reading_of (rules_of (A.count acts.now) p A.act_of) local.now event.now) }
 {
     let parcel = parcel_in(alloc, event)?;
-    let cargo = cargo_of(alloc, &parcel)?;
-    let outcome = outcome_in(local, alloc, acts, event)?;
-    Ok(Reading {
-        parcel,
-        cargo,
-        outcome,
-    })
+    let cargo = match cargo_of(alloc, &parcel) {
+        Ok(cargo) => cargo,
+        Err(why) => {
+            drop(parcel);
+            return Err(why);
+        }
+    };
+    match outcome_in(local, alloc, acts, event) {
+        Ok(outcome) => Ok(Reading {
+            parcel,
+            cargo,
+            outcome,
+        }),
+        Err(why) => {
+            drop(parcel);
+            drop(cargo);
+            Err(why)
+        }
+    }
 }
 
 /// Whether the row of an entry allows it.
@@ -237,6 +250,65 @@ fn trade(local: &mut Local, taken: &[Token], given: Items<Token>) -> Result<bool
     Ok(true)
 }
 
+/// The tokens that an entry takes, and those that it gives.
+fn tokens_of(
+    alloc: Global,
+    profile: &Profile,
+    event: &Event,
+    cargo: &Cargo,
+) -> Result<(Items<Token>, Items<Token>), OutOfMemory>
+    requires { cargo.now ≡ cargo_of (parcel_in event.now) }
+    ensures taken { IfOk result (λ out. (n : ℕ) (f : Meaning) → out.0 ≡ takes (rules_of n profile.now f) event.now) }
+    ensures given { IfOk result (λ out. (n : ℕ) (f : Meaning) → out.1 ≡ gives (rules_of n profile.now f) event.now) }
+{
+    let taken = takes(alloc, event, cargo)?;
+    Ok((taken, gives(alloc, profile, event, cargo)?))
+}
+
+/// The tokens of an entry, where it is allowed here.
+fn may_enter(
+    local: &Local,
+    alloc: Global,
+    localities: u32,
+    profile: &Profile,
+    event: &Event,
+    reading: &Reading,
+) -> Result<Option<(Items<Token>, Items<Token>)>, OutOfMemory>
+    requires valid { IsValid profile.now }
+    requires cargo { reading.now.cargo ≡ cargo_of (parcel_in event.now) }
+    requires parcel { reading.now.parcel ≡ parcel_in event.now }
+    ensures allowed { IfOk result (λ out. (f : Meaning) → reading.now ≡ reading_of (rules_of localities profile.now f) local.now event.now
+        → IsTrue (is_some out) ↔ MayWrite (rules_of localities profile.now f) local.now event.now) }
+    ensures taken { IfOk result (λ out. IfSome out (λ x. (n : ℕ) (f : Meaning) → x.0 ≡ takes (rules_of n profile.now f) event.now)) }
+    ensures given { IfOk result (λ out. IfSome out (λ x. (n : ℕ) (f : Meaning) → x.1 ≡ gives (rules_of n profile.now f) event.now)) }
+{
+    if !allows(local, alloc, localities, profile, event, reading)? {
+        return Ok(None);
+    }
+    Ok(Some(tokens_of(alloc, profile, event, &reading.cargo)?))
+}
+
+/// Tokens are traded, and the entry is the last; `false` where a token that is taken is not there.
+fn close(
+    local: &mut Local,
+    alloc: Global,
+    event: &Event,
+    tokens: (Items<Token>, Items<Token>),
+) -> Result<bool, OutOfMemory>
+    ensures covers { IfOk result (λ b. IsTrue b ↔ Covers same_token local.old.tokens tokens.0) }
+    ensures after { IfOk result (λ b. IsTrue b → local.new ≡ record local.old {
+      tokens = tokens.1 ++ minus same_token local.old.tokens tokens.0;
+      last = Some event.now;
+    }) }
+{
+    let (taken, given) = tokens;
+    if !trade(local, taken.as_slice(), given)? {
+        return Ok(false);
+    }
+    drop(local.last.replace(event.duplicate(alloc)?));
+    Ok(true)
+}
+
 /// The entry is written here, if it is allowed; `false` where it is not, and then what is left here has no meaning.
 pub(crate) fn enter(
     local: &mut Local,
@@ -254,15 +326,20 @@ pub(crate) fn enter(
     ensures after { IfOk result (λ b. (f : Meaning) → reading ≡ reading_of (rules_of localities profile.now f) local.old event.now
         → IsTrue b → local.new ≡ after (rules_of localities profile.now f) local.old event.now) }
 {
-    if !allows(local, alloc, localities, profile, event, &reading)? {
-        return Ok(false);
+    match may_enter(local, alloc, localities, profile, event, &reading) {
+        Ok(Some(tokens)) => {
+            change(local, alloc, profile, event, reading)?;
+            let closed = close(local, alloc, event, tokens)?;
+            Ok(closed)
+        }
+        // A reading is let go by a call: dropped where a `?` returns, each of its variants is a path of its own.
+        Ok(None) => {
+            drop(reading);
+            Ok(false)
+        }
+        Err(why) => {
+            drop(reading);
+            Err(why)
+        }
     }
-    let taken = takes(alloc, event, &reading.cargo)?;
-    let given = gives(alloc, profile, event, &reading.cargo)?;
-    change(local, alloc, profile, event, reading)?;
-    if !trade(local, taken.as_slice(), given)? {
-        return Ok(false);
-    }
-    local.last = Some(event.duplicate(alloc)?);
-    Ok(true)
 }
