@@ -8,18 +8,19 @@ use hpx_top::run::run;
 use hpx_value::items::{Bytes, Items, Text, Texts};
 use hpx_value::memory::OutOfMemory;
 use std::alloc::Global;
+use std::process::Abort;
 use std::sync::Wait;
 use std::test::Fail;
 use std::thread::Threads;
 
 const ORDERS: [Order; 3] = [Order::FirstIn, Order::LastIn, Order::Scrambled(7)];
 
-// What is written, and what is written for errors, where a run ends.
+// What a run came to: its status, what was written, and what was written for errors.
 #[derive(Drop)]
 struct Written {
     status: u8,
-    text: Vec<u8>,
-    line: Vec<u8>,
+    text: SureSink,
+    line: SureSink,
 }
 
 // The words of a line, apart by blanks.
@@ -31,33 +32,48 @@ fn words(alloc: Global, line: &str) -> Result<Texts, OutOfMemory> {
     Ok(Items::from_vec(texts))
 }
 
-// A run on these words, over ports of which none fails.
+// The input of each run.
+fn input(alloc: Global) -> Result<SureSource, OutOfMemory> {
+    let bytes = Vec::from_slice(alloc, b"query\n")?;
+    Ok(SureSource::new(Bytes::from_vec(bytes)))
+}
+
+// The status of a run over ports of which none fails. What `run` says of it is not needed behind it.
+fn status_of<R: Threads + Wait + Sync>(
+    rt: &R,
+    alloc: Global,
+    words: &Texts,
+    source: &mut SureSource,
+    text: &mut SureSink,
+    line: &mut SureSink,
+    order: Order,
+) -> u8 {
+    let fabric = SureFabric::new(alloc, order);
+    run(rt, alloc, words, source, text, line, fabric, &OpenGate).status
+}
+
+// A run on these words.
+fn run_over<R: Threads + Wait + Sync>(
+    rt: &R,
+    alloc: Global,
+    words: &Texts,
+    order: Order,
+) -> Result<Written, OutOfMemory> {
+    let mut source = input(alloc)?;
+    let mut text = SureSink::new(alloc);
+    let mut line = SureSink::new(alloc);
+    let status = status_of(rt, alloc, words, &mut source, &mut text, &mut line, order);
+    Ok(Written { status, text, line })
+}
+
+// A run on the words of a line.
 fn run_on<R: Threads + Wait + Sync>(
     rt: &R,
     alloc: Global,
     line: &str,
     order: Order,
 ) -> Result<Written, OutOfMemory> {
-    let mut source = SureSource::new(Bytes::from_vec(Vec::from_slice(alloc, b"query\n")?));
-    let mut sink = SureSink::new(alloc);
-    let mut err = SureSink::new(alloc);
-    let fabric = SureFabric::new(alloc, order);
-    let words = words(alloc, line)?;
-    let end = run(
-        rt,
-        alloc,
-        &words,
-        &mut source,
-        &mut sink,
-        &mut err,
-        fabric,
-        &OpenGate,
-    );
-    Ok(Written {
-        status: end.status,
-        text: Vec::from_slice(alloc, sink.bytes())?,
-        line: Vec::from_slice(alloc, err.bytes())?,
-    })
+    run_over(rt, alloc, &words(alloc, line)?, order)
 }
 
 const ZERO: &str = "commands: reset, add [amount], query, help, quit\n> 0\n> ";
@@ -199,15 +215,21 @@ const ROWS: [Row; 29] = [
     ),
 ];
 
+// A run came to what its row says.
+fn assert_is(rt: &impl Abort, written: &Written, row: &Row) {
+    let (words, status, text, line) = row;
+    assert_eq!(rt; written.status, *status, "{words}");
+    assert_eq!(rt; written.text.bytes(), text.as_bytes(), "{words}");
+    assert_eq!(rt; written.line.bytes(), line.as_bytes(), "{words}");
+}
+
 #[test]
 fn what_is_read_is_the_same_in_every_order(rt: HostRuntime) -> Result<(), Fail> {
     let alloc = rt.alloc();
     for order in ORDERS {
-        for (words, status, text, line) in ROWS {
-            let written = run_on(&rt, alloc, words, order)?;
-            assert_eq!(rt; written.status, status, "{words}");
-            assert_eq!(rt; written.text.as_slice(), text.as_bytes(), "{words}");
-            assert_eq!(rt; written.line.as_slice(), line.as_bytes(), "{words}");
+        for row in &ROWS {
+            let written = run_on(&rt, alloc, row.0, order)?;
+            assert_is(&rt, &written, row);
         }
     }
     Ok(())
@@ -235,7 +257,7 @@ fn large_parts_cross_in_frames_of_their_own(rt: HostRuntime) -> Result<(), Fail>
     ] {
         let written = run_on(&rt, alloc, words, Order::FirstIn)?;
         assert_eq!(rt; written.status, 0);
-        assert_eq!(rt; written.text.as_slice(), want.as_str().as_bytes());
+        assert_eq!(rt; written.text.bytes(), want.as_str().as_bytes());
     }
     Ok(())
 }
