@@ -11,7 +11,7 @@ use hpx_ports::memory_fabric::{MemFabric, SureFabric};
 use hpx_ports::order::Order;
 use hpx_site::site::Site;
 use hpx_site::workers::{drain_by, run_workers};
-use hpx_space_tests::worlds::{ORDERS, PROFILE, feed, is_legal, printed};
+use hpx_judged::worlds::{ORDERS, PROFILE, feed, is_legal, printed};
 use hpx_top::acts::AllActs;
 use hpx_value::items::{Lengths, Text};
 use hpx_value::memory::OutOfMemory;
