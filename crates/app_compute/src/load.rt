@@ -55,14 +55,14 @@ fn push_lines(
 }
 
 /// The number that follows.
-fn next_number(number: u32) -> u32
+pub fn next_number(number: u32) -> u32
     ensures { result ≡ next_number number }
 {
     ((u64::from(number) * 1_103_515_245 + 12_345) % MODULUS) as u32
 }
 
-/// The line of a number.
-fn line_of(alloc: Global, n: u32, number: u32) -> Result<Text, OutOfMemory>
+/// The line of a number at n localities.
+pub fn line_of(alloc: Global, n: u32, number: u32) -> Result<Text, OutOfMemory>
     requires { 1 ≤ n }
     ensures { IfOk result (λ line. line ≡ line_of n number) }
 {
@@ -91,7 +91,7 @@ fn line_by(
 }
 
 /// A word, the name of an object, and a number.
-fn line_with(alloc: Global, word: &str, object: u32, number: u32) -> Result<Text, OutOfMemory>
+pub fn line_with(alloc: Global, word: &str, object: u32, number: u32) -> Result<Text, OutOfMemory>
     ensures { IfOk result (λ line. line ≡ line_with word.now object number) }
 {
     Ok(Items::from_vec(format!(in alloc; "{word} o{object} {number}")?.into_bytes()))

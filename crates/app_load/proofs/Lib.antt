@@ -1,2 +1,11 @@
 mod Lines
 mod Texts
+mod Small
+mod Words
+mod Bindings
+mod Standings
+mod Calm
+mod Stills
+mod Sound
+mod Queries
+mod Steps
