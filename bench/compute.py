@@ -1,5 +1,6 @@
 #!/usr/bin/env python3
-"""Builds the program, and prints how fast it computes: calls a second of `fib`, steps of parts a second of `stencil`, and peak memory.
+"""Builds the program, and prints how fast it computes: calls a second of `fib`, steps of parts a second of `stencil`,
+lines a second of `load`, and peak memory.
 
 A call is one action that computes a Fibonacci number: with a threshold of 2 each call of 2 or more makes two others, and with a
 threshold of 12 each call below 12 computes its number by itself, so that bodies cost more. Run it anywhere in
@@ -57,6 +58,10 @@ def stencil(points, parts, steps, localities):
     return shortest(words)
 
 
+def load(lines, localities):
+    return shortest(["load", "--lines", str(lines), f"--hpx:localities={localities}"])
+
+
 def main():
     subprocess.run(["rt", "run", "--", "fib", "--n-value", "1"], cwd=CRATE, check=True, capture_output=True)
     for localities in (1, 4):
@@ -68,6 +73,9 @@ def main():
         idle, _ = stencil(1024, 32, 0, localities)
         took, held = stencil(1024, 32, 100, localities)
         print(f"stencil of 1,024 points in 32 parts, {localities} localities: {3200 / (took - idle):.0f} steps of parts a second, {held:.0f} MB")
+        idle, _ = load(0, localities)
+        took, held = load(20000, localities)
+        print(f"load of 20,000 lines, {localities} localities: {20000 / (took - idle):.0f} lines a second, {held:.0f} MB")
     for n, threshold in ((20, THRESHOLD), (28, COSTLY)):
         for threads in (1, 2, 4):
             idle, _ = fib(1, 1, threads, threshold)

@@ -1,5 +1,5 @@
-mod Lines
-mod Texts
+pub mod Lines
+pub mod Texts
 mod Small
 mod Words
 mod Bindings

@@ -18,8 +18,8 @@ pub fn summary(
     alloc: Global,
     lines: u32,
     errors: u32,
-    live: u32,
-    sum: i64,
+    live: usize,
+    sum: i128,
 ) -> Result<Vec<u8>, OutOfMemory>
     ensures { IfOk result (λ text. text.items ≡ summary_of lines errors live sum) }
 {

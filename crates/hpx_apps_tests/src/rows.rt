@@ -104,7 +104,7 @@ type Row = (&'static str, u8, &'static str, &'static str);
 
 // Words, and the status, the text and the line for errors that they come to. The numbers are those of any table, and the
 // rows were counted by hand.
-const ROWS: [Row; 29] = [
+const ROWS: [Row; 33] = [
     ("fib", 0, "fibonacci(10) == 55\n", ""),
     (
         "fib --n-value 92 --threshold 92",
@@ -164,6 +164,21 @@ const ROWS: [Row; 29] = [
     ("fib --hpx:threads=65", 1, "", "hpx: bad word 2\n"),
     ("stencil --points=10 --parts=3", 1, "", "hpx: bad word 0\n"),
     ("stencil --points=1025", 1, "", "hpx: bad word 2\n"),
+    // what the plain space says of the made lines
+    (
+        "load --lines 4 --hpx:localities=2",
+        0,
+        "lines 4 errors 2 live 7 sum 0\n",
+        "",
+    ),
+    (
+        "load --lines=10 --hpx:localities=2",
+        0,
+        "lines 10 errors 4 live 7 sum 12\n",
+        "",
+    ),
+    ("load --lines=0", 0, "lines 0 errors 0 live 8 sum 0\n", ""),
+    ("load --lines 20001", 1, "", "hpx: bad word 3\n"),
     // what is printed where nothing is run, whatever else is asked for
     ("--hpx:help", 0, "usage: hpx APPLICATION [OPTIONS]\n", ""),
     (

@@ -22,7 +22,7 @@ use Rattle.hpx_top.specs.declared.session.SessionFault.{SessionFault}
 use Rattle.hpx_top.specs.declared.session.SessionFault.TheVariants.{Read, Write, Fabric, JournalFull, OutOfMemory, BadFrame, Strange, InputFull}
 use Rattle.hpx_top.specs.declared.consoles.UserConsole.{UserConsole}
 use Rattle.hpx_top.specs.declared.task.Task.{Task}
-use Rattle.hpx_top.specs.declared.task.Task.TheVariants.{Console, Fib, Stencil}
+use Rattle.hpx_top.specs.declared.task.Task.TheVariants.{Console, Fib, Stencil, Load}
 use Rattle.hpx_top.specs.Acts.{act_of}
 use Rattle.hpx_top.specs.Usage.{IsTask}
 use Rattle.hpx_top.specs.Session.{rules, lines_fed, Feeds, FeedsAtMost, WritesFront, entries_in}
@@ -64,6 +64,7 @@ task_prints (Fib question) n p line es h is some few calm f =
 task_prints (Stencil shape) n p line es h is some few calm f =
     let same : ring_fed shape.points shape.parts shape.steps ≡ line = some_same (ring_fed shape.points shape.parts shape.steps) line is in
     ring_prints n p shape.points shape.parts shape.steps es some few h calm (subst (λ l. Feeds (rules_of act_of n p) l [] es) (sym same) f)
+task_prints (Load load) n p line es h is some few calm f = absurd (let no : None ≡ Some line = is in cc)
 
 -- ---- how long a line is
 
@@ -84,6 +85,7 @@ line_short (Fib question) line h is =
     subst (λ l. length l ≤ 1025) (some_same (fed_line question.number question.threshold) line is) (fib_short question.number question.threshold h)
 line_short (Stencil shape) line h is =
     subst (λ l. length l ≤ 1025) (some_same (ring_fed shape.points shape.parts shape.steps) line is) (Lines.line_short shape.points shape.parts shape.steps h)
+line_short (Load load) line h is = absurd (let no : None ≡ Some line = is in cc)
 
 pub no_console : (task : Task) (line : List ℕ) → task_line task ≡ Some line → (console : UserConsole) → task ≡ Console console → ⊥
 no_console task line is console e = let no : None ≡ Some line = ap task_line (sym e) ∙ is in cc

@@ -21,8 +21,10 @@ use Rattle.hpx_top.specs.declared.task.Notice.{Notice}
 use Rattle.hpx_top.specs.declared.task.Setup.{Setup}
 use Rattle.hpx_top.specs.declared.consoles.UserConsole.{UserConsole}
 use Rattle.hpx_top.specs.declared.task.Task.{Task}
-use Rattle.hpx_top.specs.declared.task.Task.TheVariants.{Console}
-use Rattle.hpx_top.specs.Computed.{HasComputed, IsAnswered, IsUnanswered, task_line, task_texts}
+use Rattle.hpx_top.specs.declared.task.Workload.{Workload}
+use Rattle.hpx_top.specs.declared.task.Task.TheVariants.{Console, Load}
+use Rattle.hpx_top.specs.Computed.{HasComputed, IsAnswered, IsUnanswered, reads_input, task_line, task_texts}
+use Rattle.hpx_top.specs.Loaded.{FeedsFirst, HasLoaded, IsSummed, IsSummedPlainly, IsUnloaded, WritesSo}
 use Rattle.hpx_top.specs.Printed.{HasTold, counters_text, notice_text, takes_memory}
 use Rattle.hpx_top.specs.Runs.{BeginsPlainly, Errors, Ports, HasCause, HasDone, HasRun, HasServed, IsLawful, NothingFailed, Says}
 use Rattle.hpx_top.specs.Session.{rules, entries_in, ByJournal, ByOneSpace, Feeds, NoneRefused, WritesFront}
@@ -30,6 +32,7 @@ use Rattle.hpx_top.specs.Statuses.{IsStatus, status_after, status_of}
 use Rattle.hpx_top.specs.Texts.{commands, lines_text}
 use Rattle.hpx_top.specs.Usage.{IsSetup, IsTask}
 use Rattle.hpx_top.proofs.ComputeLemmas.{computed_in, computed_none, no_console, some_same, task_prints}
+use Rattle.hpx_top.proofs.LoadLemmas.{loaded_in, loaded_none, summed_plainly}
 use Rattle.hpx_top.proofs.EndLemmas.{read_from_none}
 use Rattle.hpx_top.proofs.OneSpaceLemmas.{served_plainly}
 use Rattle.hpx_top.proofs.PartLemmas.{none_own}
@@ -53,6 +56,13 @@ legal_in None n p flight trace is law = tt
 legal_in (Some w) n p flight trace is law =
     subst (λ r. IsLegal r w.journal.entries) (ap (λ k. rules_of act_of k w.profile) is.0 ∙ ap (λ q. rules_of act_of n q) is.1) law.promises.ledger.legal
 
+no_load : (console : UserConsole) (load : Workload) → Console console ≡ Load load → ⊥
+no_load console load e = cc
+
+-- a console reads its input
+pub reads_console : (task : Task) (console : UserConsole) → task ≡ Console console → reads_input task ≡ false → ⊥
+reads_console task console is unread = let never : true ≡ false = ap reads_input (sym is) ∙ unread in cc
+
 -- a console has no line of its own
 pub console_done : (task : Task) (console : UserConsole) (n : ℕ) (p : Profile) (s : ℕ) (cuts : List ℕ) (o : Option Places) (x z : Ports) (flight : Option (List Frame))
     (trace : Option (List Wire)) → task ≡ Console console → 1 ≤ n → n ≤ 64 → length cuts ≤ 67108865 → IfSome o (λ w. (length w.nodes ≡ n) × (w.profile ≡ p))
@@ -61,8 +71,10 @@ pub console_done : (task : Task) (console : UserConsole) (n : ℕ) (p : Profile)
 console_done task console n p s cuts o x z flight trace is some few many places law served = record {
   shown = λ line own. absurd (no_console task line own console is);
   computed = λ granted line own. absurd (no_console task line own console is);
-  unread = λ line own. absurd (no_console task line own console is);
-  no_read = λ line own. absurd (no_console task line own console is);
+  loaded = λ load at. absurd (no_load console load (sym is ∙ at));
+  loaded_plainly = λ granted load at. absurd (no_load console load (sym is ∙ at));
+  unread = λ no. absurd (reads_console task console is no);
+  no_read = λ no. absurd (reads_console task console is no);
   reads = λ input h. (served input h).reads;
   served = λ other at input h.
       subst (λ c. HasServed c (ByJournal (rules_of act_of n p) cuts) s input o x z) (same_console console other (sym is ∙ at)) (served input h);
@@ -72,6 +84,10 @@ console_done task console n p s cuts o x z flight trace is some few many places 
       (served_plainly console n p s cuts input o x z some few many (legal_in o n p flight trace places law) (told_in o n p flight trace places law granted)
       (subst (λ c. none_own c (lines_of input) ≡ false) (sym same) own) (served input h));
 }
+
+-- a made session has no one line
+no_line : (task : Task) (line : List ℕ) → task_line task ≡ Some line → (load : Workload) → task ≡ Load load → ⊥
+no_line task line at load is = let never : None ≡ Some line = ap task_line (sym is) ∙ at in cc
 
 -- what is printed of a task with a line of its own, where no ask was refused
 prints_in : (task : Task) (line : List ℕ) (n : ℕ) (p : Profile) (o : Option Places) (flight : Option (List Frame)) (trace : Option (List Wire)) → IsTask task
@@ -100,12 +116,49 @@ computed_done setup line r o x z flight trace h own is law none same ok err left
   computed = λ granted other at. subst (λ l. HasComputed l (task_texts setup.task) (status_after r) (entries_in o) x.text z.text) (some_same line other (sym own ∙ at))
       (computed_in o r line (task_texts setup.task) x.text z.text none same
       (prints_in setup.task line setup.localities setup.profile o flight trace h.task own h.some h.few is law granted) ok err);
-  unread = λ other at. (left, taken, faults, refl);
-  no_read = λ other at. (no_read, no_input);
+  loaded = λ load is. absurd (no_line setup.task line own load is);
+  loaded_plainly = λ granted load is. absurd (no_line setup.task line own load is);
+  unread = λ no. (left, taken, faults, refl);
+  no_read = λ no. (no_read, no_input);
   reads = λ input there. rw (left, taken) (read_from_none input x.left x.taken there);
   served = λ console is. absurd (no_console setup.task line own console is);
   served_plainly = λ granted console is. absurd (no_console setup.task line own console is);
 }
+
+same_load : (x y : Workload) → Load x ≡ Load y → x ≡ y
+same_load x y e = cc
+
+-- its lines are few
+pub load_lines : (task : Task) (load : Workload) → task ≡ Load load → IsTask task → load.lines ≤ 20000
+load_lines task load is h = let l : IsTask (Load load) = subst IsTask is h in l.lines
+
+-- what was done of a made session
+pub load_done : (setup : Setup) (load : Workload) (r : Result ⊤ SessionFault) (o : Option Places) (x z : Ports) (flight : Option (List Frame)) (trace : Option (List Wire))
+    → IsSetup setup → setup.task ≡ Load load → load.lines ≤ 20000 → IfSome o (λ w. (length w.nodes ≡ setup.localities) × (w.profile ≡ setup.profile))
+    → IfSome o (λ w. IsLawful w flight trace) → (o ≡ None → r ≡ Err OutOfMemory) → (o ≡ None → z.text ≡ x.text)
+    → IfSome o (λ w. FeedsFirst (rules w) load w.journal.entries)
+    → IfSome o (λ w. OnOk r (WritesSo (IsSummed (rules w) load w.journal.entries) x.text z.text))
+    → IfSome o (λ w. IfErr r (λ f. IsUnloaded f (rules w) load w.journal.entries x.text z.text))
+    → z.left ≡ x.left → z.taken ≡ x.taken → z.read_faults ≡ x.read_faults → status_after r ≢ 2 → status_after r ≢ 9
+    → HasDone setup.task setup.localities setup.profile (status_after r) [] o x z
+load_done setup load r o x z flight trace h own lines is law none same fed ok err left taken faults no_read no_input =
+    let rs = rules_of act_of setup.localities setup.profile in
+    record {
+      shown = λ line at. absurd (no_line setup.task line at load own);
+      computed = λ granted line at. absurd (no_line setup.task line at load own);
+      loaded = λ other at. subst (λ l. HasLoaded rs l (IsSummed rs l (entries_in o)) (status_after r) (entries_in o) x.text z.text) (same_load load other (sym own ∙ at))
+          (loaded_in o setup.localities setup.profile r load (IsSummed rs load (entries_in o)) x.text z.text is none same (λ text s. s) fed ok err);
+      loaded_plainly = λ granted other at.
+          subst (λ l. HasLoaded rs l (IsSummedPlainly rs l (entries_in o)) (status_after r) (entries_in o) x.text z.text) (same_load load other (sym own ∙ at))
+          (loaded_in o setup.localities setup.profile r load (IsSummedPlainly rs load (entries_in o)) x.text z.text is none same
+          (λ text s. summed_plainly setup.localities setup.profile load (entries_in o) text h.some h.few lines
+          (told_in o setup.localities setup.profile flight trace is law granted) s) fed ok err);
+      unread = λ no. (left, taken, faults, refl);
+      no_read = λ no. (no_read, no_input);
+      reads = λ input there. rw (left, taken) (read_from_none input x.left x.taken there);
+      served = λ console is. absurd (no_load console load (sym is ∙ own));
+      served_plainly = λ granted console is. absurd (no_load console load (sym is ∙ own));
+    }
 
 -- no line was handled
 pub done_without : {task : Task} {n : ℕ} {p : Profile} {s : ℕ} {cuts : List ℕ} {o : Option Places} {x z : Ports} → cuts ≡ [] → HasDone task n p s [] o x z → HasDone task n p s cuts o x z
@@ -116,8 +169,10 @@ pub none_done : (task : Task) (n : ℕ) (p : Profile) (r : Result ⊤ SessionFau
 none_done task n p r x e = record {
   shown = λ line is. computed_none line [] r x.text x.text e refl;
   computed = λ granted line is. computed_none line (task_texts task) r x.text x.text e refl;
-  unread = λ line is. (refl, refl, refl, refl);
-  no_read = λ line is. subst (λ q. (status_after q ≢ 2) × (status_after q ≢ 9)) (sym e) (λ s. absurd (omega arith), λ s. absurd (omega arith));
+  loaded = λ load is. loaded_none r (rules_of act_of n p) load (IsSummed (rules_of act_of n p) load []) x.text x.text e refl;
+  loaded_plainly = λ granted load is. loaded_none r (rules_of act_of n p) load (IsSummedPlainly (rules_of act_of n p) load []) x.text x.text e refl;
+  unread = λ no. (refl, refl, refl, refl);
+  no_read = λ no. subst (λ q. (status_after q ≢ 2) × (status_after q ≢ 9)) (sym e) (λ s. absurd (omega arith), λ s. absurd (omega arith));
   reads = λ input h. read_from_none input x.left x.taken h;
   served = λ console is input h. served_none (ByJournal (rules_of act_of n p) []) r input x e refl h;
   served_plainly = λ granted console is input h own. (

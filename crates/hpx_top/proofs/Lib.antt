@@ -7,6 +7,7 @@ pub mod PartLemmas
 pub mod SessionLemmas
 pub mod FeedLemmas
 pub mod ComputeLemmas
+pub mod LoadLemmas
 pub mod TaskLemmas
 pub mod ShowLemmas
 pub mod TypedLemmas

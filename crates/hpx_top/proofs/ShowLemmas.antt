@@ -73,7 +73,7 @@ ok_value (Err e) P never h = absurd (never e refl)
 
 -- ---- entry after entry
 
-entry_at : (es : List Entry) (i : ℕ) → i < length es → (e : Entry) × (slice_get es i ≡ Some e) × (drop i es ≡ e ∷ drop (i + 1) es)
+pub entry_at : (es : List Entry) (i : ℕ) → i < length es → (e : Entry) × (slice_get es i ≡ Some e) × (drop i es ≡ e ∷ drop (i + 1) es)
 entry_at [] i h = absurd (omega arith)
 entry_at (e ∷ es) zero h = (e, refl, refl)
 entry_at (e ∷ es) (suc i) h =
@@ -81,7 +81,7 @@ entry_at (e ∷ es) (suc i) h =
     let more : suc i + 1 ≡ suc (i + 1) = omega arith in
     (next.0, next.1, next.2 ∙ ap (λ t. next.0 ∷ t) (sym (ap (λ n. drop n (e ∷ es)) more)))
 
-rest_at : (es : List Entry) (i : ℕ) (e : Entry) → drop i es ≡ e ∷ drop (i + 1) es
+pub rest_at : (es : List Entry) (i : ℕ) (e : Entry) → drop i es ≡ e ∷ drop (i + 1) es
     → concat (prints_of (drop i es)) ≡ concat (prints_by e.event) ++ concat (prints_of (drop (i + 1) es))
 rest_at es i e h = ap (λ xs. concat (prints_of xs)) h ∙ concat-append (prints_by e.event) (prints_of (drop (i + 1) es))
 

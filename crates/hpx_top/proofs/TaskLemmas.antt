@@ -13,7 +13,7 @@ use Rattle.hpx_top.specs.declared.task.Request.{Request}
 use Rattle.hpx_top.specs.declared.task.Request.TheVariants.{Print, Run}
 use Rattle.hpx_top.specs.declared.task.Setup.{Setup}
 use Rattle.hpx_top.specs.declared.task.Task.{Task}
-use Rattle.hpx_top.specs.Usage.{are_asked, are_places, are_threads, is_alone, is_ring, is_plain, is_tuned, bad_word, notice_in, or_nowhere, place_of, printed_of, reading_request, request_by, request_in, request_of, setup_of, setup_with, task_of, IsRequest, IsSetup, IsTask}
+use Rattle.hpx_top.specs.Usage.{are_asked, are_places, are_threads, is_alone, is_load, is_ring, is_plain, is_tuned, bad_word, notice_in, or_nowhere, place_of, printed_of, reading_request, request_by, request_in, request_of, setup_of, setup_with, task_of, IsRequest, IsSetup, IsTask}
 
 by_app : (app : App) → IfSome (task_of app) IsTask
 by_app Apps.Accumulator = tt
@@ -42,7 +42,12 @@ by_app (Apps.Stencil points parts steps) =
       steps = leb-true steps 1000 top.1;
     })
     (λ e. tt)
-by_app (Apps.Load start lines) = tt
+by_app (Apps.Load start lines) =
+    cond_both (is_load start lines) _ _ (λ o. IfSome o IsTask)
+    (λ e.
+    let both = and_parts (nat_le start 2147483647) (nat_le lines 20000) e in
+    record { start = leb-true start 2147483647 both.0; lines = leb-true lines 20000 both.1 })
+    (λ e. tt)
 by_app Apps.Check = tt
 by_app (Apps.Collect op start) = tt
 by_app (Apps.Vector points parts) = tt

@@ -1,5 +1,5 @@
 -- What a run of an application that computes has done where it ends, of which one line is fed.
-use Rattle.std.specs.Prelude.{ℕ, Option, Some, None, List, [], ◌∷◌, ◌≡◌, ◌≢◌, ◌⊎◌}
+use Rattle.std.specs.Prelude.{ℕ, Bool, true, false, Option, Some, None, List, [], ◌∷◌, ◌≡◌, ◌≢◌, ◌⊎◌}
 use Rattle.std.specs.List.{concat}
 use Rattle.hpx_journal.specs.declared.entry.Entry.{Entry}
 use Rattle.hpx_journal.specs.Entries.{Rules}
@@ -11,9 +11,9 @@ use Rattle.app_compute.specs.FibLaw.{fed_line, fib_text}
 use Rattle.app_compute.specs.Ring.{stencil_texts}
 use Rattle.app_compute.specs.StencilLaw.{ring_fed}
 use Rattle.hpx_top.specs.declared.task.Task.{Task}
-use Rattle.hpx_top.specs.declared.task.Task.TheVariants.{Console, Fib, Stencil}
+use Rattle.hpx_top.specs.declared.task.Task.TheVariants.{Console, Fib, Stencil, Load}
 use Rattle.hpx_top.specs.declared.compute.Work.{Work}
-use Rattle.hpx_top.specs.declared.compute.Work.TheVariants.{Serves, Answers}
+use Rattle.hpx_top.specs.declared.compute.Work.TheVariants.{Serves, Answers, Loads}
 use Rattle.hpx_top.specs.Session.{lines_fed, Feeds, FeedsAtMost, WritesFront}
 
 -- the one line that is fed for a task, if it has one
@@ -21,17 +21,25 @@ abbrev pub task_line : Task → Option (List ℕ)
 task_line (Console console) = None
 task_line (Fib question) = Some (fed_line question.number question.threshold)
 task_line (Stencil shape) = Some (ring_fed shape.points shape.parts shape.steps)
+task_line (Load load) = None
 
--- what is done for a task: the console that it is serves its input, or its line is answered
+-- whether it reads any input: a console does
+abbrev pub reads_input : Task → Bool
+reads_input (Console console) = true
+reads_input _ = false
+
+-- what is done for a task: the console that it is serves its input, its line is answered, or its session is fed
 abbrev pub IsWorkOf : Task → Work → Type 0
 IsWorkOf task (Serves console) = task ≡ Console console
 IsWorkOf task (Answers line) = task_line task ≡ Some line
+IsWorkOf task (Loads load) = task ≡ Load load
 
 -- what it prints
 abbrev pub task_texts : Task → List (List ℕ)
 task_texts (Console console) = []
 task_texts (Fib question) = fib_text question.number ∷ []
 task_texts (Stencil shape) = stencil_texts shape.points shape.steps
+task_texts (Load load) = []
 
 -- the line was fed, all that follows from it was done, and what was printed was written
 pub record IsAnswered (r : Rules) (line : List ℕ) (entries : List Entry) (old new : Option (List ℕ)) : Type 0 where

@@ -10,5 +10,6 @@ pub mod Session
 pub mod Ends
 pub mod Statuses
 pub mod Computed
+pub mod Loaded
 pub mod Printed
 pub mod Runs

@@ -19,9 +19,11 @@ use Rattle.app_console.specs.Console.{prompt}
 use Rattle.app_console.specs.Lines.{IsFront, lines_of}
 use Rattle.hpx_top.specs.Acts.{act_of}
 use Rattle.hpx_top.specs.declared.task.Task.{Task}
-use Rattle.hpx_top.specs.declared.task.Task.TheVariants.{Console}
+use Rattle.hpx_top.specs.declared.task.Task.TheVariants.{Console, Load}
+use Rattle.hpx_top.specs.declared.task.Workload.{Workload}
 use Rattle.hpx_top.specs.declared.consoles.UserConsole.{UserConsole}
-use Rattle.hpx_top.specs.Computed.{HasComputed, task_line, task_texts}
+use Rattle.hpx_top.specs.Computed.{HasComputed, reads_input, task_line, task_texts}
+use Rattle.hpx_top.specs.Loaded.{HasLoaded, IsSummed, IsSummedPlainly}
 use Rattle.hpx_top.specs.Ends.{IsWhole, IsBroken, IsBrokenOff, IsBegun, IsShort, IsReadFrom, IsReadUp, IsReadOn}
 use Rattle.hpx_top.specs.Session.{rules, entries_in, IsAmple, NoneRefused, AllGranted, AllDone, IsRested, Telling, ByJournal, ByOneSpace, WritesFront}
 use Rattle.hpx_top.specs.declared.task.Setup.{Setup}
@@ -101,15 +103,20 @@ abbrev pub OwnsNone : UserConsole → List ℕ → Type 0
 OwnsNone console input = list_any (λ line. is_own (how console line)) (lines_of input) ≡ false
 
 -- What was done of a task at n localities: the console served its input, and the journal and its lengths behind each line tell what it
--- wrote; an application that computes read nothing, and what was written is what the journal printed. Where no ask for credit was
--- refused, and no line is a `hold`, `turn`, `audit` or `counter`, that is what one plain space says, or what was to be computed.
+-- wrote; any other application read nothing, and what was written is what the journal printed, or what the prints of the made session come
+-- to. Where no ask for credit was refused, and no line is a `hold`, `turn`, `audit` or `counter`, that is what one plain space says, or
+-- what was to be computed.
 pub record HasDone (task : Task) (n : ℕ) (p : Profile) (status : ℕ) (cuts : List ℕ) (world : Option Places) (x z : Ports) : Type 0 where
   pub shown : (line : List ℕ) → task_line task ≡ Some line
       → HasComputed line (prints_of (entries_in world)) status (entries_in world) x.text z.text
   pub computed : NoneRefused p (entries_in world) → (line : List ℕ) → task_line task ≡ Some line
       → HasComputed line (task_texts task) status (entries_in world) x.text z.text
-  pub unread : (line : List ℕ) → task_line task ≡ Some line → (z.left ≡ x.left) × (z.taken ≡ x.taken) × (z.read_faults ≡ x.read_faults) × (cuts ≡ [])
-  pub no_read : (line : List ℕ) → task_line task ≡ Some line → (status ≢ 2) × (status ≢ 9)
+  pub loaded : (load : Workload) → task ≡ Load load
+      → HasLoaded (rules_of act_of n p) load (IsSummed (rules_of act_of n p) load (entries_in world)) status (entries_in world) x.text z.text
+  pub loaded_plainly : NoneRefused p (entries_in world) → (load : Workload) → task ≡ Load load
+      → HasLoaded (rules_of act_of n p) load (IsSummedPlainly (rules_of act_of n p) load (entries_in world)) status (entries_in world) x.text z.text
+  pub unread : reads_input task ≡ false → (z.left ≡ x.left) × (z.taken ≡ x.taken) × (z.read_faults ≡ x.read_faults) × (cuts ≡ [])
+  pub no_read : reads_input task ≡ false → (status ≢ 2) × (status ≢ 9)
   pub reads : (input : List ℕ) → x.left ≡ Some input → IsReadFrom input z.left x.taken z.taken
   pub served : (console : UserConsole) → task ≡ Console console → (input : List ℕ) → x.left ≡ Some input
       → HasServed console (ByJournal (rules_of act_of n p) cuts) status input world x z

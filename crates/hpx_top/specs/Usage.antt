@@ -11,9 +11,10 @@ use Rattle.hpx_options.specs.Meanings.{Reading, Means, BadWord, reading_of}
 use Rattle.app_compute.specs.FibLaw.{IsQuestion}
 use Rattle.app_compute.specs.StencilLaw.{IsAsked}
 use Rattle.hpx_top.specs.declared.task.Task.{Task}
-use Rattle.hpx_top.specs.declared.task.Task.TheVariants.{Console, Fib, Stencil}
+use Rattle.hpx_top.specs.declared.task.Task.TheVariants.{Console, Fib, Stencil, Load}
 use Rattle.hpx_top.specs.declared.consoles.UserConsole.TheVariants.{Accumulator, Space}
 use Rattle.hpx_top.specs.declared.task.Setup.{Setup}
+use Rattle.hpx_top.specs.declared.task.Workload.{Workload}
 use Rattle.hpx_top.specs.declared.task.Notice.{Notice}
 use Rattle.hpx_top.specs.declared.task.Notice.TheVariants.{Help, Version, Counters}
 use Rattle.hpx_top.specs.declared.task.Request.{Request}
@@ -45,16 +46,21 @@ abbrev pub is_ring : ℕ → ℕ → ℕ → Bool
 is_ring points parts steps =
     nat_le 1 points && nat_le points 1024 && nat_le 1 parts && nat_le parts 32 && nat_le steps 1000 && (points % parts == 0)
 
+-- a number below 2^31 to start with, and up to 20,000 lines that follow from it
+abbrev pub is_load : ℕ → ℕ → Bool
+is_load start lines = nat_le start 2147483647 && nat_le lines 20000
+
 abbrev pub are_places : ℕ → Bool
 are_places n = nat_le 1 n && nat_le n 64
 
--- the application, where it is built: both consoles, Fibonacci numbers, and rings
+-- the application, where it is built: both consoles, Fibonacci numbers, rings, and made sessions
 abbrev pub task_of : App → Option Task
 task_of Apps.Accumulator = Some (Console Accumulator)
 task_of Apps.Space = Some (Console Space)
 task_of (Apps.Fib number threshold) = if are_asked number threshold then Some (Fib (record { number = number; threshold = threshold })) else None
 task_of (Apps.Stencil points parts steps) =
     if is_ring points parts steps then Some (Stencil (record { points = points; parts = parts; steps = steps })) else None
+task_of (Apps.Load start lines) = if is_load start lines then Some (Load (record { start = start; lines = lines })) else None
 task_of _ = None
 
 abbrev pub setup_with : Settings → Task → Setup
@@ -107,11 +113,17 @@ notice_in words = printed_of (request_in words)
 
 -- ---- what is asked for is in range
 
+-- the numbers of a made session in their ranges
+pub record IsLoad (load : Workload) : Type 0 where
+  pub start : load.start ≤ 2147483647
+  pub lines : load.lines ≤ 20000
+
 -- a task in the ranges of its numbers
 abbrev pub IsTask : Task → Type 0
 IsTask (Console console) = Unit {0}
 IsTask (Fib question) = IsQuestion question.number question.threshold
 IsTask (Stencil shape) = IsAsked shape.points shape.parts shape.steps
+IsTask (Load load) = IsLoad load
 
 -- from 1 to 64 localities, by 1 to 64 threads, and a profile in its ranges
 pub record IsSetup (setup : Setup) : Type 0 where

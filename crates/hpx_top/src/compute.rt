@@ -14,7 +14,7 @@ use crate::acts::AllActs;
 use crate::consoles::UserConsole;
 use crate::crew::Crew;
 use crate::session::{SessionFault, feed, show};
-use crate::task::Task;
+use crate::task::{Task, Workload};
 use app_compute::line::fib_line;
 use app_compute::session::MARK;
 use app_compute::shape::stencil_line;
@@ -37,6 +37,8 @@ pub(crate) enum Work {
     Serves(UserConsole),
     /// A line is answered.
     Answers(Text),
+    /// A made session is fed.
+    Loads(Workload),
 }
 
 /// What is done for a task. An `Err` is for want of memory for its line.
@@ -54,6 +56,7 @@ pub(crate) fn work_of(alloc: Global, task: Task) -> Result<Work, OutOfMemory>
             let line = stencil_line(alloc, shape.points, shape.parts, shape.steps)?;
             Ok(Work::Answers(marked(alloc, MARK, line.as_slice())?))
         }
+        Task::Load(load) => Ok(Work::Loads(load)),
     }
 }
 

@@ -5,6 +5,7 @@ pub mod acts;
 mod compute;
 pub mod consoles;
 pub mod crew;
+mod load;
 mod own;
 mod printed;
 mod progress;

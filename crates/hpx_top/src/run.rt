@@ -1,8 +1,8 @@
 //! The top call: all that the program does, over ports that it is given.
-ghost use Rattle.std.specs.Prelude.{◌≡◌, ◌≢◌, ◌≤◌, ◌⊎◌, [], Ok, Some, None, Err, IfSome, OnOk, OnErr, IfErr, ℕ, length};
+ghost use Rattle.std.specs.Prelude.{◌≡◌, ◌≢◌, ◌≤◌, ◌⊎◌, [], false, Ok, Some, None, Err, IfSome, OnOk, OnErr, IfErr, ℕ, length};
 ghost use Rattle.hpx_value.specs.Profiles.{IsValid};
 ghost use Rattle.hpx_options.specs.Texts.{bad_word_text};
-ghost use Rattle.hpx_top.specs.Computed.{task_line};
+ghost use Rattle.hpx_top.specs.Computed.{reads_input};
 ghost use Rattle.hpx_ports.specs.Faults.{Rose};
 ghost use Rattle.hpx_ports.specs.Told.{followed};
 ghost use Rattle.hpx_top.specs.Printed.{HasTold, counters_text};
@@ -17,6 +17,7 @@ use crate::acts::AllActs;
 use crate::compute::{Work, compute_all, work_of};
 use crate::consoles::UserConsole;
 use crate::crew::Crew;
+use crate::load::load_all;
 use crate::printed::{print, write_values};
 use crate::serve::serve;
 use crate::session::SessionFault;
@@ -131,7 +132,7 @@ fn run_task<S: Source, K: Sink, F: Fabric, R: Threads + Wait + Sync, G: Gate>(
     ensures did { let x = ports_of (S.left source.old) (S.taken source.old) (K.held sink.old) (S.faults source.old) (K.faults sink.old) (F.faults fabric.old) in
         let z = ports_of (S.left source.new) (S.taken source.new) (K.held sink.new) (S.faults source.new) (K.faults sink.new) (F.faults fabric.new) in
         HasDone setup.now.task setup.now.localities setup.now.profile (status_after result.1) result.2.items result.0 x z }
-    ensures unread { (line : _) → task_line setup.now.task ≡ Some line → source.new ≡ source.old }
+    ensures unread { reads_input setup.now.task ≡ false → source.new ≡ source.old }
     ensures cause { let x = ports_of (S.left source.old) (S.taken source.old) (K.held sink.old) (S.faults source.old) (K.faults sink.old) (F.faults fabric.old) in
         let z = ports_of (S.left source.new) (S.taken source.new) (K.held sink.new) (S.faults source.new) (K.faults sink.new) (F.faults fabric.new) in
         HasCause (status_after result.1) result.0 x z }
@@ -152,6 +153,10 @@ fn run_task<S: Source, K: Sink, F: Fabric, R: Threads + Wait + Sync, G: Gate>(
         }
         Ok(Work::Answers(line)) => {
             let (world, done) = compute_all(crew, alloc, localities, profile, line, sink, fabric);
+            (world, done, Vec::new(alloc))
+        }
+        Ok(Work::Loads(load)) => {
+            let (world, done) = load_all(crew, alloc, localities, profile, load, sink, fabric);
             (world, done, Vec::new(alloc))
         }
         Err(OutOfMemory) => (None, Err(SessionFault::OutOfMemory), Vec::new(alloc)),
@@ -194,7 +199,7 @@ fn run_setup<S: Source, K: Sink, F: Fabric, R: Threads + Wait + Sync, G: Gate>(
     ensures did { let x = ports_of (S.left source.old) (S.taken source.old) (K.held sink.old) (S.faults source.old) (K.faults sink.old) (F.faults fabric.old) in
         let z = ports_of (S.left source.new) (S.taken source.new) (K.held sink.new) (S.faults source.new) (K.faults sink.new) (F.faults fabric.new) in
         HasRun setup.now (status_after result.1) result.2.items result.0 x z }
-    ensures unread { (line : _) → task_line setup.now.task ≡ Some line → source.new ≡ source.old }
+    ensures unread { reads_input setup.now.task ≡ false → source.new ≡ source.old }
     ensures cause { let x = ports_of (S.left source.old) (S.taken source.old) (K.held sink.old) (S.faults source.old) (K.faults sink.old) (F.faults fabric.old) in
         let z = ports_of (S.left source.new) (S.taken source.new) (K.held sink.new) (S.faults source.new) (K.faults sink.new) (F.faults fabric.new) in
         HasCause (status_after result.1) result.0 x z }
@@ -237,7 +242,7 @@ fn fulfil<S: Source, K: Sink, F: Fabric, R: Threads + Wait + Sync, G: Gate>(
     ensures did { let x = ports_of (S.left source.old) (S.taken source.old) (K.held sink.old) (S.faults source.old) (K.faults sink.old) (F.faults fabric.old) in
         let z = ports_of (S.left source.new) (S.taken source.new) (K.held sink.new) (S.faults source.new) (K.faults sink.new) (F.faults fabric.new) in
         (setup : Setup) → request.now ≡ Request.Run setup → HasRun setup (status_after result.1) result.2.items result.0 x z }
-    ensures unread { (setup : Setup) (line : _) → request.now ≡ Request.Run setup → task_line setup.task ≡ Some line → source.new ≡ source.old }
+    ensures unread { (setup : Setup) → request.now ≡ Request.Run setup → reads_input setup.task ≡ false → source.new ≡ source.old }
     ensures cause { let x = ports_of (S.left source.old) (S.taken source.old) (K.held sink.old) (S.faults source.old) (K.faults sink.old) (F.faults fabric.old) in
         let z = ports_of (S.left source.new) (S.taken source.new) (K.held sink.new) (S.faults source.new) (K.faults sink.new) (F.faults fabric.new) in
         HasCause (status_after result.1) result.0 x z }
@@ -283,7 +288,7 @@ pub fn run<S: Source, K: Sink, E: Sink, F: Fabric, R: Threads + Wait + Sync, G: 
     ensures did { let x = ports_of (S.left source.old) (S.taken source.old) (K.held sink.old) (S.faults source.old) (K.faults sink.old) (F.faults fabric) in
         let z = ports_of (S.left source.new) (S.taken source.new) (K.held sink.new) (S.faults source.new) (K.faults sink.new) (F.faults result.fabric) in
         (setup : Setup) → request_in words.now ≡ Ok (Request.Run setup) → HasRun setup result.status result.cuts.items result.world x z }
-    ensures unread { (setup : Setup) (line : _) → request_in words.now ≡ Ok (Request.Run setup) → task_line setup.task ≡ Some line → source.new ≡ source.old }
+    ensures unread { (setup : Setup) → request_in words.now ≡ Ok (Request.Run setup) → reads_input setup.task ≡ false → source.new ≡ source.old }
     ensures cause { let x = ports_of (S.left source.old) (S.taken source.old) (K.held sink.old) (S.faults source.old) (K.faults sink.old) (F.faults fabric) in
         let z = ports_of (S.left source.new) (S.taken source.new) (K.held sink.new) (S.faults source.new) (K.faults sink.new) (F.faults result.fabric) in
         HasCause result.status result.world x z }

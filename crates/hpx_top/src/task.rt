@@ -1,6 +1,6 @@
 //! What the words ask for.
 ghost use Rattle.std.specs.Prelude.{◌≡◌};
-ghost use Rattle.hpx_top.specs.Usage.{are_asked, are_places, are_threads, is_plain, is_ring, is_tuned, request_in, request_of, setup_of, task_of};
+ghost use Rattle.hpx_top.specs.Usage.{are_asked, are_places, are_threads, is_load, is_plain, is_ring, is_tuned, request_in, request_of, setup_of, task_of};
 
 use crate::consoles::UserConsole;
 use app_compute::line::Question;
@@ -9,6 +9,13 @@ use hpx_options::options::read;
 use hpx_options::settings::{App, Counters, Mode, OptionFault, Settings};
 use hpx_value::items::Texts;
 use hpx_value::profile::Profile;
+
+/// A session that is made from a number to start with: how many lines follow from it.
+#[derive(Clone, Copy, Debug, PartialEq, Eq)]
+pub struct Workload {
+    pub start: u32,
+    pub lines: u32,
+}
 
 /// An application that is run.
 #[derive(Clone, Copy, Debug, PartialEq, Eq)]
@@ -19,6 +26,8 @@ pub enum Task {
     Fib(Question),
     /// A ring of points is stepped.
     Stencil(Shape),
+    /// A made session is fed.
+    Load(Workload),
 }
 
 /// An application, the localities and the profile that it is run over, by how many threads, and the counters that are printed behind it.
@@ -61,6 +70,10 @@ const MOST_PARTS: u32 = 32;
 
 const MOST_STEPS: u32 = 1000;
 
+const MOST_LINES: u32 = 20_000;
+
+const GREATEST_START: u32 = 2_147_483_647;
+
 /// A number and a threshold in their ranges.
 fn are_asked(number: u32, threshold: u32) -> bool
     ensures { result ≡ are_asked number threshold }
@@ -83,6 +96,13 @@ fn is_ring(shape: Shape) -> bool
         && parts <= MOST_PARTS
         && steps <= MOST_STEPS
         && points % parts == 0
+}
+
+/// A number to start with and how many lines follow from it, in their ranges.
+fn is_load(start: u32, lines: u32) -> bool
+    ensures { result ≡ is_load start lines }
+{
+    start <= GREATEST_START && lines <= MOST_LINES
 }
 
 /// From 1 to 64 localities.
@@ -133,6 +153,9 @@ fn task_of(app: App) -> Option<Task>
                 steps,
             };
             is_ring(shape).then_some(Task::Stencil(shape))
+        }
+        App::Load { start, lines } => {
+            is_load(start, lines).then_some(Task::Load(Workload { start, lines }))
         }
         _ => None,
     }

@@ -39,7 +39,7 @@ type Row = (
     usize,
 );
 
-const ROWS: [Row; 12] = [
+const ROWS: [Row; 15] = [
     // All credit is held again once an answer has come, however many calls there were.
     (
         Console::Space,
@@ -99,6 +99,29 @@ register a k8\nadd a 1\nquery a\naudit",
         b"new a 1\nregister a n\nregister a n\naudit",
         b"error: taken\n1.1 recorded 1610612736 held 1610612736 flight 0 at 1\n",
         0,
+    ),
+    // In a hold locality 0 deals with its own messages.
+    (
+        Console::Space,
+        TWO,
+        b"new a 0\nhold\nquery a\ncounter /objects{locality#0/total}/count/born",
+        b"0\n1\n",
+        0,
+    ),
+    // An object is told of where it stands, in a hold too.
+    (
+        Console::Space,
+        TWO,
+        b"new a 0\nmove a 1\nhold\naudit",
+        b"0.1 recorded 2147483648 held 2147483648 flight 0 at 1\n",
+        1,
+    ),
+    (
+        Console::Space,
+        THREE,
+        b"new a 1\nadd a 5\nmove a 2\nquery a\nwhere a\nhold\ndrop a\naudit\ndrain\naudit",
+        b"5\n2\n1.1 recorded 1073741824 held 0 flight 1073741824 at 2\nno objects\n",
+        1,
     ),
     // There and back, and away while it is called.
     (

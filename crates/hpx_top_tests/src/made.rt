@@ -192,14 +192,29 @@ fn put_any(alloc: Global, seed: u64, input: &mut Vec<u8>) -> Result<(), OutOfMem
     Made::from(seed).line(alloc, word, args, input)
 }
 
-/// The lines that are made from a number, of all commands.
-fn lines(alloc: Global, start: u64) -> Result<Vec<u8>, OutOfMemory> {
+/// Adds so many lines of any command, and answers the seed of the last.
+fn put_many(
+    alloc: Global,
+    start: u64,
+    lines: u64,
+    input: &mut Vec<u8>,
+) -> Result<u64, OutOfMemory> {
     let mut seed = start;
-    let mut input = Vec::new(alloc);
-    for _ in 0..20 + start % 61 {
+    for _ in 0..lines {
         seed = next(seed);
-        put_any(alloc, seed, &mut input)?;
+        put_any(alloc, seed, input)?;
     }
+    Ok(seed)
+}
+
+/// The lines that are made from a number, of all commands. Among them is a `hold` with a call behind it, and then some steps.
+fn lines(alloc: Global, start: u64) -> Result<Vec<u8>, OutOfMemory> {
+    let mut input = Vec::from_slice(alloc, b"new e 1\n")?;
+    let seed = put_many(alloc, start, 10 + start % 31, &mut input)?;
+    input.extend_from_slice(b"hold\nadd e 1\n")?;
+    let steps = 1 + seed % 40;
+    input.extend_from_slice(format!(in alloc; "turn {steps}\n")?.as_bytes())?;
+    put_many(alloc, seed, 10 + start % 31, &mut input)?;
     Ok(input)
 }
 

@@ -96,10 +96,20 @@ fn apply(pool: &mut Vec<Plain>, line: Line) {
     }
 }
 
-/// One line. Before a move all is done that follows from the lines before it, so that the last move in order is the last.
-fn put(alloc: Global, running: &mut Running, line: Line) -> Result<(), OutOfMemory> {
+/// One line. Before a number moves that may be moving still, all is done that follows from the lines before it, so that its last move in
+/// order is the last. All other moves and calls are under way at once.
+fn put(
+    alloc: Global,
+    running: &mut Running,
+    moving: &mut Vec<u64>,
+    line: Line,
+) -> Result<(), OutOfMemory> {
     if line.moves {
-        running.rest(alloc)?;
+        if moving.iter().any(|object| *object == line.object) {
+            running.rest(alloc)?;
+            *moving = Vec::new(alloc);
+        }
+        moving.push(line.object)?;
     }
     running.line(alloc, SPACE, line.text(alloc)?.as_bytes())
 }
@@ -107,10 +117,11 @@ fn put(alloc: Global, running: &mut Running, line: Line) -> Result<(), OutOfMemo
 /// The lines, and then all that follows.
 fn stir(alloc: Global, running: &mut Running, pool: &mut Vec<Plain>) -> Result<(), OutOfMemory> {
     let mut seed = 1u64;
+    let mut moving = Vec::new(alloc);
     for _ in 0..LINES {
         seed = next(seed);
         let line = Line::made(seed);
-        put(alloc, running, line)?;
+        put(alloc, running, &mut moving, line)?;
         apply(pool, line);
     }
     running.rest(alloc)

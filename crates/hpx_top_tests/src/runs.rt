@@ -282,12 +282,6 @@ const WORD_ROWS: &[(&[&[u8]], u8, &[u8])] = &[
     (&[], 1, b"hpx: bad word 0\n"),
     (&[b"fob"], 1, b"hpx: bad word 1\n"),
     // What is not built yet.
-    (&[b"load"], 1, b"hpx: bad word 0\n"),
-    (
-        &[b"accumulator", b"--hpx:threads=2"],
-        1,
-        b"hpx: bad word 0\n",
-    ),
     (
         &[b"accumulator", b"--hpx:ini=hpx.journal=1"],
         1,
@@ -319,7 +313,8 @@ const WORD_ROWS: &[(&[&[u8]], u8, &[u8])] = &[
         1,
         b"hpx: bad word 10\n",
     ),
-    // Other numbers of localities, and the usual settings in other words.
+    // Other numbers of localities and of threads, and the usual settings in other words.
+    (&[b"accumulator", b"--hpx:threads=4"], 0, b""),
     (&[b"accumulator"], 0, b""),
     (&[b"accumulator", b"--hpx:localities=3"], 0, b""),
     (&[b"accumulator", b"--hpx:localities=64"], 0, b""),

@@ -22,16 +22,22 @@ fn name_of(console: Console) -> &'static str {
     }
 }
 
-/// The session of a row.
+/// The session of a row, by so many threads.
 fn session<R: Threads + Wait + Sync>(
     rt: &R,
     alloc: Global,
     row: &Row,
     order: Order,
+    threads: u32,
 ) -> Result<Ended, OutOfMemory> {
     let (console, localities, input, _) = row;
     let localities = format!(in alloc; "--hpx:localities={localities}")?;
-    let words = [name_of(*console).as_bytes(), localities.as_bytes()];
+    let threads = format!(in alloc; "--hpx:threads={threads}")?;
+    let words = [
+        name_of(*console).as_bytes(),
+        localities.as_bytes(),
+        threads.as_bytes(),
+    ];
     Ok(ran(rt, alloc, &words, input, order, NONE)?)
 }
 
@@ -64,20 +70,29 @@ fn assert_rows<R: Abort + Threads + Wait + Sync>(
     alloc: Global,
     rows: &[Row],
     order: Order,
+    threads: u32,
 ) -> Result<(), Fail> {
     for row in rows {
-        let ended = session(rt, alloc, row, order)?;
+        let ended = session(rt, alloc, row, order, threads)?;
         let plain = without_prompts(alloc, ended.text.as_slice())?;
         assert_is(rt, row, &ended, plain.as_slice());
     }
     Ok(())
 }
 
+/// Orders of delivery, and how many threads.
+const PACES: [(Order, u32); 4] = [
+    (Order::FirstIn, 1),
+    (Order::LastIn, 1),
+    (Order::Scrambled(7), 1),
+    (Order::Scrambled(7), 4),
+];
+
 #[test]
 fn runs_print_what_one_plain_space_says(rt: HostRuntime) -> Result<(), Fail> {
-    for order in ORDERS {
-        assert_rows(&rt, rt.alloc(), still_rows(), order)?;
-        assert_rows(&rt, rt.alloc(), rows_that_move(), order)?;
+    for (order, threads) in PACES {
+        assert_rows(&rt, rt.alloc(), still_rows(), order, threads)?;
+        assert_rows(&rt, rt.alloc(), rows_that_move(), order, threads)?;
     }
     Ok(())
 }

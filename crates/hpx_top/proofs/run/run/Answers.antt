@@ -75,8 +75,8 @@ returns-clause-did g c =
     λ setup at. run_as is (c.fulfil-world.ensures.did setup (one_request c.args.words.now c.in-Ok.request (Run setup) (sym c.request_in.ensures ∙ c.in-Ok.is) at))
 
 pub returns-clause-unread : goal.returns-clause-unread
-returns-clause-unread g c = λ setup line at own.
-    c.fulfil-world.ensures.unread setup line (one_request c.args.words.now c.in-Ok.request (Run setup) (sym c.request_in.ensures ∙ c.in-Ok.is) at) own
+returns-clause-unread g c = λ setup at own.
+    c.fulfil-world.ensures.unread setup (one_request c.args.words.now c.in-Ok.request (Run setup) (sym c.request_in.ensures ∙ c.in-Ok.is) at) own
 
 pub returns-clause-cause : goal.returns-clause-cause
 returns-clause-cause g c =

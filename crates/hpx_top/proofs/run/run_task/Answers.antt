@@ -1,8 +1,8 @@
 use Rattle.std.proofs.Common.{Some, refl, ap, ◌≡◌}
 use Rattle.hpx_top.specs.Computed.{task_line}
-use Rattle.hpx_top.specs.declared.task.Task.TheVariants.{Console}
+use Rattle.hpx_top.specs.declared.task.Task.TheVariants.{Console, Load}
 use Rattle.hpx_top.proofs.ComputeLemmas.{line_short}
-use Rattle.hpx_top.proofs.DoneLemmas.{computed_done, console_done, done_without, none_done}
+use Rattle.hpx_top.proofs.DoneLemmas.{computed_done, console_done, done_without, load_done, load_lines, none_done}
 use Rattle.hpx_top.proofs.RunLemmas.{cause_none, cause_unread, no_status}
 use Rattle.hpx_top.proofs.run.run_task.Goals as goal
 
@@ -37,3 +37,24 @@ returns-in-Err-clause-did g c =
 
 pub returns-in-Err-clause-cause : goal.returns-in-Err-clause-cause
 returns-in-Err-clause-cause g c = cause_none _ _ refl
+
+-- the session that is fed is that of the task
+pub load_all-world-requires-clause-lines : goal.load_all-world-requires-clause-lines
+load_all-world-requires-clause-lines g c κs within =
+    let is : c.args.setup.now.task ≡ Load c.in-Ok-Loads.load = rw c.in-Ok-Loads.field-0-is at c.in-Ok-Loads.ensures.work in
+    load_lines c.args.setup.now.task c.in-Ok-Loads.load is c.requires.setup.task
+
+pub returns-in-Ok-Loads-clause-did : goal.returns-in-Ok-Loads-clause-did
+returns-in-Ok-Loads-clause-did g c =
+    let is : c.args.setup.now.task ≡ Load c.in-Ok-Loads.load = rw c.in-Ok-Loads.field-0-is at c.in-Ok-Loads.ensures.work in
+    let did = c.load_all-world.ensures in
+    let r = c.load_all-world.result.1 in
+    done_without c.new-in-Ok-Loads.ensures.items
+    (load_done c.args.setup.now c.in-Ok-Loads.load r c.load_all-world.result.0 _ _ _ _ c.requires.setup is (load_lines c.args.setup.now.task c.in-Ok-Loads.load is c.requires.setup.task)
+    did.places did.lawful did.none (λ none. ap g.K.Sink.held (did.untouched none).0) did.fed did.loaded did.unloaded refl refl refl (no_status r 2 did.no_read.0) (no_status r 9 did.no_read.1))
+
+pub returns-in-Ok-Loads-clause-cause : goal.returns-in-Ok-Loads-clause-cause
+returns-in-Ok-Loads-clause-cause g c =
+    let did = c.load_all-world.ensures in
+    let r = c.load_all-world.result.1 in
+    cause_unread _ c.load_all-world.result.0 _ _ _ _ _ _ _ _ _ (no_status r 2 did.no_read.0) (no_status r 9 did.no_read.1) did.cause
