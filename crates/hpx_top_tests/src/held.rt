@@ -113,7 +113,7 @@ register a k8\nadd a 1\nquery a\naudit",
         Console::Space,
         TWO,
         b"new a 0\nmove a 1\nhold\naudit",
-        b"0.1 recorded 2147483648 held 2147483648 flight 0 at 1\n",
+        b"0.1 recorded 1073741824 held 1073741824 flight 0 at 1\n",
         1,
     ),
     (

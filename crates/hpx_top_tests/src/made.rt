@@ -1,4 +1,4 @@
-//! Sessions of `space` made from numbers: 300 beside a plain space, and 100 in which delivery is held back.
+//! Sessions of `space` made from numbers, over three orders: 300 beside a plain space, and 102 in which delivery is held back.
 use crate::ended::{Ended, NONE, ran};
 use crate::plain::{Arg, Does, Kind, Made, Plain};
 use crate::pool::next;
@@ -152,15 +152,13 @@ fn is_right<R: Threads + Wait + Sync>(
     Ok(ended.left.status == 0 && ended.text.as_slice() == plain.text.as_slice())
 }
 
-/// The first of a hundred sessions that prints something else than the plain space.
+/// The first of 300 sessions that prints something else than the plain space.
 fn wrong<R: Threads + Wait + Sync>(
     rt: &R,
     alloc: Global,
-    first: u64,
     order: Order,
 ) -> Result<Option<u64>, OutOfMemory> {
-    for i in 0..100u64 {
-        let start = first.saturating_add(3 * i);
+    for start in 1..301u64 {
         if !is_right(rt, alloc, start, order)? {
             return Ok(Some(start));
         }
@@ -169,20 +167,10 @@ fn wrong<R: Threads + Wait + Sync>(
 }
 
 #[test]
-fn a_hundred_spaces_are_right_over_first_in(rt: HostRuntime) -> Result<(), Fail> {
-    assert_eq!(rt; wrong(&rt, rt.alloc(), 3, Order::FirstIn)?, None);
-    Ok(())
-}
-
-#[test]
-fn a_hundred_spaces_are_right_over_last_in(rt: HostRuntime) -> Result<(), Fail> {
-    assert_eq!(rt; wrong(&rt, rt.alloc(), 1, Order::LastIn)?, None);
-    Ok(())
-}
-
-#[test]
-fn a_hundred_spaces_are_right_over_scrambled(rt: HostRuntime) -> Result<(), Fail> {
-    assert_eq!(rt; wrong(&rt, rt.alloc(), 2, Order::Scrambled(7))?, None);
+fn spaces_are_right_over_three_orders(rt: HostRuntime) -> Result<(), Fail> {
+    for order in ORDERS {
+        assert_eq!(rt; wrong(&rt, rt.alloc(), order)?, None);
+    }
     Ok(())
 }
 
