@@ -1,4 +1,5 @@
 //! Words, and what is read for them.
+use hpx_ports::gate::OpenGate;
 use hpx_ports::memory_fabric::SureFabric;
 use hpx_ports::memory_sink::SureSink;
 use hpx_ports::memory_source::SureSource;
@@ -7,7 +8,9 @@ use hpx_top::run::run;
 use hpx_value::items::{Bytes, Items, Text, Texts};
 use hpx_value::memory::OutOfMemory;
 use std::alloc::Global;
+use std::sync::Wait;
 use std::test::Fail;
+use std::thread::Threads;
 
 const ORDERS: [Order; 3] = [Order::FirstIn, Order::LastIn, Order::Scrambled(7)];
 
@@ -29,13 +32,27 @@ fn words(alloc: Global, line: &str) -> Result<Texts, OutOfMemory> {
 }
 
 // A run on these words, over ports of which none fails.
-fn run_on(alloc: Global, line: &str, order: Order) -> Result<Written, OutOfMemory> {
+fn run_on<R: Threads + Wait + Sync>(
+    rt: &R,
+    alloc: Global,
+    line: &str,
+    order: Order,
+) -> Result<Written, OutOfMemory> {
     let mut source = SureSource::new(Bytes::from_vec(Vec::from_slice(alloc, b"query\n")?));
     let mut sink = SureSink::new(alloc);
     let mut err = SureSink::new(alloc);
     let fabric = SureFabric::new(alloc, order);
     let words = words(alloc, line)?;
-    let end = run(alloc, &words, &mut source, &mut sink, &mut err, fabric);
+    let end = run(
+        rt,
+        alloc,
+        &words,
+        &mut source,
+        &mut sink,
+        &mut err,
+        fabric,
+        &OpenGate,
+    );
     Ok(Written {
         status: end.status,
         text: Vec::from_slice(alloc, sink.bytes())?,
@@ -71,7 +88,7 @@ type Row = (&'static str, u8, &'static str, &'static str);
 
 // Words, and the status, the text and the line for errors that they come to. The numbers are those of any table, and the
 // rows were counted by hand.
-const ROWS: [Row; 25] = [
+const ROWS: [Row; 29] = [
     ("fib", 0, "fibonacci(10) == 55\n", ""),
     (
         "fib --n-value 92 --threshold 92",
@@ -114,6 +131,21 @@ const ROWS: [Row; 25] = [
         "0\n0\n",
         "",
     ),
+    // any number of threads
+    ("fib --hpx:threads=4", 0, "fibonacci(10) == 55\n", ""),
+    (
+        "fib --hpx:threads=2 --hpx:localities=3",
+        0,
+        "fibonacci(10) == 55\n",
+        "",
+    ),
+    (
+        "stencil --points=4 --parts=2 --steps=2 --hpx:localities=2 --hpx:threads=4",
+        0,
+        "2 1 2 1\n1 2 1 2\n",
+        "",
+    ),
+    ("fib --hpx:threads=65", 1, "", "hpx: bad word 2\n"),
     ("stencil --points=10 --parts=3", 1, "", "hpx: bad word 0\n"),
     ("stencil --points=1025", 1, "", "hpx: bad word 2\n"),
     // what is printed where nothing is run, whatever else is asked for
@@ -172,7 +204,7 @@ fn what_is_read_is_the_same_in_every_order(rt: HostRuntime) -> Result<(), Fail> 
     let alloc = rt.alloc();
     for order in ORDERS {
         for (words, status, text, line) in ROWS {
-            let written = run_on(alloc, words, order)?;
+            let written = run_on(&rt, alloc, words, order)?;
             assert_eq!(rt; written.status, status, "{words}");
             assert_eq!(rt; written.text.as_slice(), text.as_bytes(), "{words}");
             assert_eq!(rt; written.line.as_slice(), line.as_bytes(), "{words}");
@@ -201,7 +233,7 @@ fn large_parts_cross_in_frames_of_their_own(rt: HostRuntime) -> Result<(), Fail>
         "stencil --points=1024 --parts=2 --steps=1 --hpx:localities=2",
         "stencil --points=1024 --parts=32 --steps=1 --hpx:localities=2",
     ] {
-        let written = run_on(alloc, words, Order::FirstIn)?;
+        let written = run_on(&rt, alloc, words, Order::FirstIn)?;
         assert_eq!(rt; written.status, 0);
         assert_eq!(rt; written.text.as_slice(), want.as_str().as_bytes());
     }

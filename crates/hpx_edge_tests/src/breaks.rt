@@ -71,7 +71,7 @@ fn the_read_that_fails_ends_the_session(rt: HostRuntime) -> Result<(), Fail> {
     ] {
         let mut source = ReaderSource::new(Breaking::new(INPUT, 5, fails));
         let mut sink = SureSink::new(alloc);
-        let ended = session(alloc, &mut source, &mut sink, Order::FirstIn)?;
+        let ended = session(&rt, alloc, &mut source, &mut sink, Order::FirstIn)?;
         assert_eq!(rt;
             (ended.status, source.faults()),
             (status, (status / 2) as u64),
@@ -105,7 +105,7 @@ fn the_write_that_fails_ends_the_session(rt: HostRuntime) -> Result<(), Fail> {
         let mut source = SureSource::new(Bytes::from_vec(Vec::from_slice(alloc, INPUT)?));
         let mut room = [0; 64];
         let mut sink = WriterSink::new(Breaking::new(room.as_mut_slice(), 7, fails));
-        let ended = session(alloc, &mut source, &mut sink, Order::FirstIn)?;
+        let ended = session(&rt, alloc, &mut source, &mut sink, Order::FirstIn)?;
         let failed = sink.faults();
         drop(sink);
         let want = if written == whole.len() {

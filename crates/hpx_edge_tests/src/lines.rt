@@ -37,7 +37,7 @@ fn the_greatest_lines_are_read(rt: HostRuntime) -> Result<(), Fail> {
             input.extend_from_slice(tail)?;
             assert_eq!(rt; input.len(), bytes);
             input.extend_from_slice(b"\nquery\n")?;
-            let (text, ended) = printed(alloc, input, order)?;
+            let (text, ended) = printed(&rt, alloc, input, order)?;
             assert_eq!(rt; ended.status, 0);
             assert_eq!(rt; ended.line.as_slice(), b"".as_slice());
             let mut whole = Vec::from_slice(alloc, COMMANDS)?;
@@ -55,7 +55,7 @@ fn five_thousand_lines_are_read(rt: HostRuntime) -> Result<(), Fail> {
         let mut input = Vec::new(alloc);
         push_times(&mut input, b"add 1\n", 5000)?;
         input.extend_from_slice(b"query\nquit\nadd 1\n")?;
-        let (text, ended) = printed(alloc, input, order)?;
+        let (text, ended) = printed(&rt, alloc, input, order)?;
         assert_eq!(rt; ended.status, 0);
         assert_eq!(rt; ended.line.as_slice(), b"".as_slice());
         let mut whole = Vec::from_slice(alloc, COMMANDS)?;

@@ -11,7 +11,7 @@ fn an_input_that_never_ends_is_full(rt: HostRuntime) -> Result<(), Fail> {
     let alloc = rt.alloc();
     let mut source = ReaderSource::new(repeat(b'x'));
     let mut sink = SureSink::new(alloc);
-    let ended = session(alloc, &mut source, &mut sink, Order::FirstIn)?;
+    let ended = session(&rt, alloc, &mut source, &mut sink, Order::FirstIn)?;
     assert_eq!(rt; ended.status, 9);
     assert_eq!(rt; ended.line.as_slice(), b"hpx: input full\n".as_slice());
     assert_eq!(rt; source.taken(), 67_108_864);
@@ -31,7 +31,7 @@ fn a_session_ends_where_its_journal_is_full(rt: HostRuntime) -> Result<(), Fail>
     let alloc = rt.alloc();
     let mut input = Vec::new(alloc);
     push_times(&mut input, b"add 1\n", LINES + 2)?;
-    let (text, ended) = printed(alloc, input, Order::FirstIn)?;
+    let (text, ended) = printed(&rt, alloc, input, Order::FirstIn)?;
     assert_eq!(rt; ended.status, 5);
     assert_eq!(rt; ended.line.as_slice(), b"hpx: journal full\n".as_slice());
     assert_eq!(rt; ended.entries, 2_096_114 + 15);

@@ -1,4 +1,5 @@
 //! A session over a source and a sink.
+use hpx_ports::gate::OpenGate;
 use hpx_ports::memory_fabric::SureFabric;
 use hpx_ports::memory_sink::SureSink;
 use hpx_ports::memory_source::SureSource;
@@ -9,6 +10,8 @@ use hpx_top::run::run;
 use hpx_value::items::{Bytes, Items, Text};
 use hpx_value::memory::OutOfMemory;
 use std::alloc::Global;
+use std::sync::Wait;
+use std::thread::Threads;
 
 /// What is written before the first line is read.
 pub const COMMANDS: &[u8] = b"commands: reset, add [amount], query, help, quit\n";
@@ -22,7 +25,8 @@ pub struct Ended {
 }
 
 /// The accumulator over two localities.
-pub fn session<S: Source, K: Sink>(
+pub fn session<S: Source, K: Sink, R: Threads + Wait + Sync>(
+    rt: &R,
     alloc: Global,
     source: &mut S,
     sink: &mut K,
@@ -34,7 +38,7 @@ pub fn session<S: Source, K: Sink>(
     }
     let mut err = SureSink::new(alloc);
     let fabric = SureFabric::new(alloc, order);
-    let end = run(alloc, &words, source, sink, &mut err, fabric);
+    let end = run(rt, alloc, &words, source, sink, &mut err, fabric, &OpenGate);
     let entries = match &end.world {
         Some(world) => world.journal().entries(),
         None => 0,
@@ -47,14 +51,15 @@ pub fn session<S: Source, K: Sink>(
 }
 
 /// What a session prints whose input is this, where no port fails, and how it ended.
-pub fn printed(
+pub fn printed<R: Threads + Wait + Sync>(
+    rt: &R,
     alloc: Global,
     input: Vec<u8>,
     order: Order,
 ) -> Result<(Vec<u8>, Ended), OutOfMemory> {
     let mut source = SureSource::new(Bytes::from_vec(input));
     let mut sink = SureSink::new(alloc);
-    let ended = session(alloc, &mut source, &mut sink, order)?;
+    let ended = session(rt, alloc, &mut source, &mut sink, order)?;
     Ok((Vec::from_slice(alloc, sink.bytes())?, ended))
 }
 

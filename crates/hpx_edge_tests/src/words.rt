@@ -1,4 +1,5 @@
 //! The program on the words of an environment.
+use hpx_ports::gate::OpenGate;
 use hpx_ports::memory_fabric::SureFabric;
 use hpx_ports::memory_sink::SureSink;
 use hpx_ports::memory_source::SureSource;
@@ -9,7 +10,9 @@ use hpx_value::items::{Bytes, Items, Text, Texts};
 use hpx_value::memory::OutOfMemory;
 use std::alloc::Global;
 use std::env::{Env, FillError};
+use std::sync::Wait;
 use std::test::Fail;
+use std::thread::Threads;
 
 /// The environment of a program that was started with these words, behind its name.
 #[derive(Drop)]
@@ -46,13 +49,26 @@ struct Written {
 }
 
 /// The program on these words, and on an input of two lines.
-fn run_on<W: Words>(alloc: Global, given: &W) -> Result<Written, OutOfMemory> {
+fn run_on<W: Words, R: Threads + Wait + Sync>(
+    rt: &R,
+    alloc: Global,
+    given: &W,
+) -> Result<Written, OutOfMemory> {
     let input = Vec::from_slice(alloc, b"add 5\nquery\n")?;
     let mut source = SureSource::new(Bytes::from_vec(input));
     let mut sink = SureSink::new(alloc);
     let mut err = SureSink::new(alloc);
     let fabric = SureFabric::new(alloc, Order::FirstIn);
-    let end = program(alloc, given, &mut source, &mut sink, &mut err, fabric);
+    let end = program(
+        rt,
+        alloc,
+        given,
+        &mut source,
+        &mut sink,
+        &mut err,
+        fabric,
+        &OpenGate,
+    );
     Ok(Written {
         status: end.status,
         text: Vec::from_slice(alloc, sink.bytes())?,
@@ -140,8 +156,9 @@ fn the_words_are_read_whole(rt: HostRuntime) -> Result<(), Fail> {
         } else {
             (1, b"".as_slice())
         };
-        let by_system = run_on(alloc, &EnvWords::new(&Started(*words)))?;
+        let by_system = run_on(&rt, alloc, &EnvWords::new(&Started(*words)))?;
         let in_memory = run_on(
+            &rt,
             alloc,
             &MemWords {
                 words: texts(alloc, *words)?,
@@ -164,7 +181,7 @@ fn too_many_words_are_refused(rt: HostRuntime) -> Result<(), Fail> {
     for _ in 0..2000 {
         words.push(b"more".as_slice())?;
     }
-    let written = run_on(alloc, &EnvWords::new(&Started(words.as_slice())))?;
+    let written = run_on(&rt, alloc, &EnvWords::new(&Started(words.as_slice())))?;
     assert_eq!(rt; written.status, 1);
     assert_eq!(rt; written.text.as_slice(), b"".as_slice());
     assert_eq!(rt; written.line.as_slice(), b"hpx: bad word 3\n".as_slice());

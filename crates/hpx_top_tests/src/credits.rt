@@ -41,7 +41,7 @@ fn the_audit_tells_the_credit_of_the_accumulator(rt: HostRuntime) -> Result<(), 
             (32, b"32\n"),
         ] {
             let input = adds(alloc, lines)?;
-            let ended = session(alloc, input.as_slice(), order)?;
+            let ended = session(&rt, alloc, input.as_slice(), order)?;
             assert_eq!(rt; ended.status, 0);
             let (audit, query) = told(alloc, ended)?;
             assert_eq!(rt;

@@ -4,7 +4,9 @@ use hpx_ports::order::Order;
 use hpx_space_tests::worlds::{Asks, PROFILE, asks_in, is_legal};
 use hpx_value::memory::OutOfMemory;
 use std::alloc::Global;
+use std::sync::Wait;
 use std::test::Fail;
+use std::thread::Threads;
 
 /// The text of one number, as the test itself makes it.
 #[derive(Drop)]
@@ -122,11 +124,16 @@ fn asked(alloc: Global, ended: &Ended, plain: &Plain) -> Option<Asks> {
 }
 
 /// How many of the sessions of every third number are right, from this one on. None asks for credit, since each answer brings it back.
-fn a_third(alloc: Global, first: u64, order: Order) -> Result<u32, Fail> {
+fn a_third<R: Threads + Wait + Sync>(
+    rt: &R,
+    alloc: Global,
+    first: u64,
+    order: Order,
+) -> Result<u32, Fail> {
     let mut right = 0u32;
     for i in 0..100u64 {
         let (input, plain) = generated(alloc, first.saturating_add(3 * i))?;
-        let ended = session(alloc, input.as_slice(), order)?;
+        let ended = session(rt, alloc, input.as_slice(), order)?;
         let none = Asks {
             asked: 0,
             granted: 0,
@@ -143,18 +150,18 @@ fn a_third(alloc: Global, first: u64, order: Order) -> Result<u32, Fail> {
 
 #[test]
 fn a_hundred_sessions_are_right_over_first_in(rt: HostRuntime) -> Result<(), Fail> {
-    assert_eq!(rt; a_third(rt.alloc(), 3, Order::FirstIn)?, 100);
+    assert_eq!(rt; a_third(&rt, rt.alloc(), 3, Order::FirstIn)?, 100);
     Ok(())
 }
 
 #[test]
 fn a_hundred_sessions_are_right_over_last_in(rt: HostRuntime) -> Result<(), Fail> {
-    assert_eq!(rt; a_third(rt.alloc(), 1, Order::LastIn)?, 100);
+    assert_eq!(rt; a_third(&rt, rt.alloc(), 1, Order::LastIn)?, 100);
     Ok(())
 }
 
 #[test]
 fn a_hundred_sessions_are_right_over_scrambled(rt: HostRuntime) -> Result<(), Fail> {
-    assert_eq!(rt; a_third(rt.alloc(), 2, Order::Scrambled(7))?, 100);
+    assert_eq!(rt; a_third(&rt, rt.alloc(), 2, Order::Scrambled(7))?, 100);
     Ok(())
 }

@@ -160,7 +160,7 @@ fn what_is_held_back_is_told_and_let_go(rt: HostRuntime) -> Result<(), Fail> {
     let alloc = rt.alloc();
     for order in ORDERS {
         for (i, (console, words, input, want, frames)) in ROWS.iter().enumerate() {
-            let ended = ran(alloc, words, input, order, NONE)?;
+            let ended = ran(&rt, alloc, words, input, order, NONE)?;
             assert_eq!(rt;
                 (ended.status, ended.line.as_slice()),
                 (0, b"".as_slice()),
@@ -206,7 +206,7 @@ fn steps_let_go_what_is_held_back(rt: HostRuntime) -> Result<(), Fail> {
         front.extend_from_slice(b"> > > > ")?;
         let mut steps = 0u32;
         for _ in 0..40 {
-            let ended = ran(alloc, TWO, input.as_slice(), *order, NONE)?;
+            let ended = ran(&rt, alloc, TWO, input.as_slice(), *order, NONE)?;
             let tail = ended.text.as_slice().strip_prefix(front.as_slice());
             let tail = tail.unwrap_or(b"");
             assert_eq!(rt; ended.status, 0);
@@ -247,7 +247,7 @@ fn cuts_tell_how_long_the_journal_was(rt: HostRuntime) -> Result<(), Fail> {
         let mut before = Vec::new(alloc);
         for (line, rests) in LINES {
             input.extend_from_slice(line)?;
-            let ended = ran(alloc, TWO, input.as_slice(), order, NONE)?;
+            let ended = ran(&rt, alloc, TWO, input.as_slice(), order, NONE)?;
             let entries = ended.entries();
             let Ended {
                 status,

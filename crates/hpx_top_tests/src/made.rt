@@ -7,7 +7,9 @@ use hpx_ports::order::Order;
 use hpx_space_tests::worlds::{ORDERS, PROFILE, is_legal};
 use hpx_value::memory::OutOfMemory;
 use std::alloc::Global;
+use std::sync::Wait;
 use std::test::Fail;
+use std::thread::Threads;
 
 const WORDS: &[&[u8]] = &[b"space", b"--hpx:localities=3"];
 
@@ -503,11 +505,16 @@ fn session(alloc: Global, start: u64) -> Result<(Vec<u8>, Plain), OutOfMemory> {
 }
 
 /// The first of a hundred sessions that prints something else than the plain space.
-fn wrong(alloc: Global, first: u64, order: Order) -> Result<Option<u64>, OutOfMemory> {
+fn wrong<R: Threads + Wait + Sync>(
+    rt: &R,
+    alloc: Global,
+    first: u64,
+    order: Order,
+) -> Result<Option<u64>, OutOfMemory> {
     for i in 0..100u64 {
         let start = first.saturating_add(3 * i);
         let (input, plain) = session(alloc, start)?;
-        let ended = ran(alloc, WORDS, input.as_slice(), order, NONE)?;
+        let ended = ran(rt, alloc, WORDS, input.as_slice(), order, NONE)?;
         if ended.status != 0 || ended.text.as_slice() != plain.text.as_slice() {
             return Ok(Some(start));
         }
@@ -517,19 +524,19 @@ fn wrong(alloc: Global, first: u64, order: Order) -> Result<Option<u64>, OutOfMe
 
 #[test]
 fn a_hundred_spaces_are_right_over_first_in(rt: HostRuntime) -> Result<(), Fail> {
-    assert_eq!(rt; wrong(rt.alloc(), 3, Order::FirstIn)?, None);
+    assert_eq!(rt; wrong(&rt, rt.alloc(), 3, Order::FirstIn)?, None);
     Ok(())
 }
 
 #[test]
 fn a_hundred_spaces_are_right_over_last_in(rt: HostRuntime) -> Result<(), Fail> {
-    assert_eq!(rt; wrong(rt.alloc(), 1, Order::LastIn)?, None);
+    assert_eq!(rt; wrong(&rt, rt.alloc(), 1, Order::LastIn)?, None);
     Ok(())
 }
 
 #[test]
 fn a_hundred_spaces_are_right_over_scrambled(rt: HostRuntime) -> Result<(), Fail> {
-    assert_eq!(rt; wrong(rt.alloc(), 2, Order::Scrambled(7))?, None);
+    assert_eq!(rt; wrong(&rt, rt.alloc(), 2, Order::Scrambled(7))?, None);
     Ok(())
 }
 
@@ -551,7 +558,7 @@ fn a_hundred_sessions_that_hold_are_legal(rt: HostRuntime) -> Result<(), Fail> {
     for order in ORDERS {
         for start in 0..34u64 {
             let input = lines(alloc, start)?;
-            let ended = ran(alloc, WORDS, input.as_slice(), order, NONE)?;
+            let ended = ran(&rt, alloc, WORDS, input.as_slice(), order, NONE)?;
             assert_eq!(rt; (ended.status, ended.fabric.in_flight()), (0, 0), "{start}");
             let Some(world) = &ended.world else {
                 return Err(Fail::new("no world"));

@@ -1,5 +1,6 @@
 //! Runs of the accumulator over ports in memory.
 use hpx_ports::fabric::{Fabric, Wire};
+use hpx_ports::gate::OpenGate;
 use hpx_ports::memory_fabric::MemFabric;
 use hpx_ports::memory_sink::MemSink;
 use hpx_ports::memory_source::MemSource;
@@ -11,7 +12,9 @@ use hpx_value::items::{Bytes, Items, Lengths, Text, Texts};
 use hpx_value::memory::OutOfMemory;
 use hpx_world::world::World;
 use std::alloc::{AllocError, Global};
+use std::sync::Wait;
 use std::test::Fail;
+use std::thread::Threads;
 
 const WORDS: &[&[u8]] = &[b"accumulator", b"--hpx:localities=2"];
 
@@ -71,7 +74,8 @@ fn words(alloc: Global, words: &[&[u8]]) -> Result<Texts, AllocError> {
 }
 
 /// The run over a fabric of which these calls fail. What `run` says of it is not needed behind it.
-fn run_over(
+fn run_over<R: Threads + Wait + Sync>(
+    rt: &R,
     alloc: Global,
     words: &Texts,
     ports: (&mut MemSource, &mut MemSink, &mut MemSink),
@@ -81,11 +85,12 @@ fn run_over(
     let (source, sink, err) = ports;
     let (sends, delivers) = fails;
     let fabric = MemFabric::new(alloc, order, sends, delivers);
-    run(alloc, words, source, sink, err, fabric)
+    run(rt, alloc, words, source, sink, err, fabric, &OpenGate)
 }
 
 /// The run on these words over this input.
-pub fn ran(
+pub fn ran<R: Threads + Wait + Sync>(
+    rt: &R,
     alloc: Global,
     given: &[&[u8]],
     input: &[u8],
@@ -99,6 +104,7 @@ pub fn ran(
     let fails = (calls(alloc, faults.sends)?, calls(alloc, faults.delivers)?);
     let words = words(alloc, given)?;
     let end = run_over(
+        rt,
         alloc,
         &words,
         (&mut source, &mut sink, &mut err),
@@ -116,8 +122,13 @@ pub fn ran(
 }
 
 /// The session of the accumulator over this input, where no port fails.
-pub fn session(alloc: Global, input: &[u8], order: Order) -> Result<Ended, AllocError> {
-    ran(alloc, WORDS, input, order, NONE)
+pub fn session<R: Threads + Wait + Sync>(
+    rt: &R,
+    alloc: Global,
+    input: &[u8],
+    order: Order,
+) -> Result<Ended, AllocError> {
+    ran(rt, alloc, WORDS, input, order, NONE)
 }
 
 /// So many lines `add 1`.
@@ -169,7 +180,7 @@ fn sessions_have_their_text_entries_and_frames(rt: HostRuntime) -> Result<(), Fa
                 4,
             ),
         ] {
-            let ended = session(alloc, input, order)?;
+            let ended = session(&rt, alloc, input, order)?;
             assert_eq!(rt; ended.status, 0);
             assert!(rt; is_text(ended.text.as_slice(), want));
             assert_eq!(rt; ended.line.as_slice(), b"".as_slice());
@@ -216,7 +227,7 @@ fn sent_over(alloc: Global, wire: Option<&Wire>) -> Result<Vec<u8>, AllocError> 
 #[test]
 fn each_command_crosses_the_fabric(rt: HostRuntime) -> Result<(), Fail> {
     let alloc = rt.alloc();
-    let ended = session(alloc, b"add 5\nquery\nquit\n", Order::FirstIn)?;
+    let ended = session(&rt, alloc, b"add 5\nquery\nquit\n", Order::FirstIn)?;
     assert_eq!(rt; ended.fabric.in_flight(), 0);
     let trace = ended.fabric.trace();
     assert_eq!(rt; trace.len(), 12);
@@ -227,8 +238,13 @@ fn each_command_crosses_the_fabric(rt: HostRuntime) -> Result<(), Fail> {
 }
 
 /// How a run over the lines `add 5` and `query` ends whose ports fail at these calls.
-fn failing(alloc: Global, order: Order, faults: Faults) -> Result<Ended, AllocError> {
-    ran(alloc, WORDS, b"add 5\nquery\n", order, faults)
+fn failing<R: Threads + Wait + Sync>(
+    rt: &R,
+    alloc: Global,
+    order: Order,
+    faults: Faults,
+) -> Result<Ended, AllocError> {
+    ran(rt, alloc, WORDS, b"add 5\nquery\n", order, faults)
 }
 
 #[test]
@@ -265,7 +281,7 @@ fn each_read_write_and_send_may_fail(rt: HostRuntime) -> Result<(), Fail> {
                 sends: &[sends],
                 delivers: &[],
             };
-            let ended = failing(alloc, order, faults)?;
+            let ended = failing(&rt, alloc, order, faults)?;
             assert_eq!(rt; (ended.status, ended.line.as_slice()), (status, line));
             assert!(rt; is_front(ended.text.as_slice(), bytes));
         }
@@ -290,7 +306,7 @@ fn each_delivery_may_fail(rt: HostRuntime) -> Result<(), Fail> {
                 delivers: &[n],
                 ..NONE
             };
-            let ended = failing(alloc, order, faults)?;
+            let ended = failing(&rt, alloc, order, faults)?;
             let text = ended.text.as_slice();
             if ended.status == 0 {
                 assert!(rt; is_front(text, 57));
@@ -311,11 +327,6 @@ const WORD_ROWS: &[(&[&[u8]], u8, &[u8])] = &[
     (&[b"fob"], 1, b"hpx: bad word 1\n"),
     // What is not built yet.
     (&[b"load"], 1, b"hpx: bad word 0\n"),
-    (
-        &[b"accumulator", b"--hpx:threads=2"],
-        1,
-        b"hpx: bad word 0\n",
-    ),
     (
         &[b"accumulator", b"--hpx:ini=hpx.journal=1"],
         1,
@@ -347,7 +358,8 @@ const WORD_ROWS: &[(&[&[u8]], u8, &[u8])] = &[
         1,
         b"hpx: bad word 10\n",
     ),
-    // Other numbers of localities, and the usual settings in other words.
+    // Other numbers of localities and of threads, and the usual settings in other words.
+    (&[b"accumulator", b"--hpx:threads=4"], 0, b""),
     (&[b"accumulator"], 0, b""),
     (&[b"accumulator", b"--hpx:localities=3"], 0, b""),
     (&[b"accumulator", b"--hpx:localities=64"], 0, b""),
@@ -378,7 +390,7 @@ const WORD_ROWS: &[(&[&[u8]], u8, &[u8])] = &[
 fn other_words_are_refused_or_mean_the_same(rt: HostRuntime) -> Result<(), Fail> {
     let alloc = rt.alloc();
     for (given, status, line) in WORD_ROWS {
-        let ended = ran(alloc, given, b"add 5\nquery\n", Order::FirstIn, NONE)?;
+        let ended = ran(&rt, alloc, given, b"add 5\nquery\n", Order::FirstIn, NONE)?;
         assert_eq!(rt; (ended.status, ended.line.as_slice()), (*status, *line));
         let bytes = if *status == 0 { 57 } else { 0 };
         assert!(rt; is_front(ended.text.as_slice(), bytes));
@@ -417,7 +429,7 @@ fn counters_are_written_behind_what_ended_well(rt: HostRuntime) -> Result<(), Fa
                 sends: &[],
                 delivers: &[],
             };
-            let ended = ran(alloc, COUNTED, b"add 5\nquery\n", order, faults)?;
+            let ended = ran(&rt, alloc, COUNTED, b"add 5\nquery\n", order, faults)?;
             assert_eq!(rt; ended.status, status);
             assert_eq!(rt; Some(ended.text.as_slice()), text.get(..bytes));
         }
@@ -432,7 +444,7 @@ fn counters_are_written_behind_what_ended_well(rt: HostRuntime) -> Result<(), Fa
 fn two_thousand_lines_are_two_thousand_times_one(rt: HostRuntime) -> Result<(), Fail> {
     let alloc = rt.alloc();
     let input = adds(alloc, 2000)?;
-    let ended = session(alloc, input.as_slice(), Order::FirstIn)?;
+    let ended = session(&rt, alloc, input.as_slice(), Order::FirstIn)?;
     assert_eq!(rt; ended.status, 0);
     assert_eq!(rt; ended.fabric.in_flight(), 0);
     assert_eq!(rt; ended.fabric.trace().len(), 4 + 2000 * 4);

@@ -7,7 +7,9 @@ use hpx_ports::order::Order;
 use hpx_space_tests::worlds::ORDERS;
 use hpx_value::memory::OutOfMemory;
 use std::alloc::Global;
+use std::sync::Wait;
 use std::test::Fail;
+use std::thread::Threads;
 
 /// The application that runs a console.
 fn name_of(console: Console) -> &'static str {
@@ -18,12 +20,23 @@ fn name_of(console: Console) -> &'static str {
     }
 }
 
-/// The session of a row.
-fn session(alloc: Global, row: &Row, order: Order) -> Result<Ended, OutOfMemory> {
+/// The session of a row, by so many threads.
+fn session<R: Threads + Wait + Sync>(
+    rt: &R,
+    alloc: Global,
+    row: &Row,
+    order: Order,
+    threads: u32,
+) -> Result<Ended, OutOfMemory> {
     let (console, localities, input, _) = row;
     let localities = format!(in alloc; "--hpx:localities={localities}")?;
-    let words = [name_of(*console).as_bytes(), localities.as_bytes()];
-    Ok(ran(alloc, &words, input, order, NONE)?)
+    let threads = format!(in alloc; "--hpx:threads={threads}")?;
+    let words = [
+        name_of(*console).as_bytes(),
+        localities.as_bytes(),
+        threads.as_bytes(),
+    ];
+    Ok(ran(rt, alloc, &words, input, order, NONE)?)
 }
 
 /// A text without its prompts. Nothing else that is printed has a `>`.
@@ -40,14 +53,22 @@ pub fn count(text: &[u8], byte: u8) -> usize {
     text.iter().filter(|b| **b == byte).count()
 }
 
+/// Orders of delivery, and how many threads.
+const PACES: [(Order, u32); 4] = [
+    (Order::FirstIn, 1),
+    (Order::LastIn, 1),
+    (Order::Scrambled(7), 1),
+    (Order::Scrambled(7), 4),
+];
+
 // There is a prompt for each line, and one more at the end. The last line has no newline.
 #[test]
 fn runs_print_what_one_plain_space_says(rt: HostRuntime) -> Result<(), Fail> {
     let alloc = rt.alloc();
-    for order in ORDERS {
+    for (order, threads) in PACES {
         for row in rows().iter().chain(moving_rows()) {
             let (console, _, input, want) = row;
-            let ended = session(alloc, row, order)?;
+            let ended = session(&rt, alloc, row, order, threads)?;
             assert_eq!(rt; (ended.status, ended.line.as_slice()), (0, b"".as_slice()));
             let text = without_prompts(alloc, ended.text.as_slice())?;
             assert_eq!(rt; text.as_slice().strip_prefix(help(*console)), Some(*want));
@@ -92,7 +113,7 @@ fn each_write_and_send_of_a_space_may_fail(rt: HostRuntime) -> Result<(), Fail> 
             };
             let words = [b"space".as_slice(), b"--hpx:localities=2"];
             let input = b"new a 1\nadd a 5\nquery a\n";
-            let ended = ran(alloc, &words, input, order, faults)?;
+            let ended = ran(&rt, alloc, &words, input, order, faults)?;
             assert_eq!(rt; ended.status, status);
             let front = WHOLE.get(..WHOLE.len().saturating_sub(missing));
             assert_eq!(rt; Some(ended.text.as_slice()), front);
@@ -110,7 +131,7 @@ fn a_space_without_lines_writes_no_entry(rt: HostRuntime) -> Result<(), Fail> {
         (b"\t quit \nnew a 0\n", b"> "),
         (&[b'x'; 1025], b"> error: line too long\n> "),
     ] {
-        let ended = ran(alloc, &[b"space"], input, Order::FirstIn, NONE)?;
+        let ended = ran(&rt, alloc, &[b"space"], input, Order::FirstIn, NONE)?;
         assert_eq!(rt; (ended.status, ended.entries()), (0, 0));
         let text = ended.text.as_slice();
         assert_eq!(rt; text.strip_prefix(help(Console::Space)), Some(tail));
