@@ -58,7 +58,7 @@ due_steps r s (MessageDue m ∷ due) fresh =
     let now : Turn = wrote (Sent (record { origin = s.tables.here; serial = s.tables.serial + 1 })) (posts (named s.tables.here (s.tables.serial + 1) m) (draws (record s { due = due }))) in
     let more = due_steps r (record s { tables = now.tables; last = now.last }) due fresh in (
       more.0,
-      (now, record { fresh = fresh; message = m; rest = due; due = refl; name = refl; now = refl }, more.1),
+      (now, inl (record { fresh = fresh; message = m; rest = due; due = refl; name = refl; now = refl }), more.1),
     )
 due_steps r s (PrintDue bytes ∷ due) fresh =
     let now : Turn = wrote (Print bytes) (record s { due = due }) in

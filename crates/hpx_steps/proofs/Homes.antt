@@ -6,7 +6,7 @@ use Rattle.hpx_steps.proofs.Changes.{among_either, first_leaves, last_comes}
 use Rattle.hpx_steps.proofs.Puts.{Goes, as_parcel, remade_others, remade_own, root_stays, way_goes}
 use Rattle.hpx_steps.proofs.Stranded.{IsStranded, stranded_now, way_strands}
 use Rattle.hpx_steps.specs.Homes.{HasHomes, IsOwnMail, WaitsWell, WasStranded}
-use Rattle.hpx_steps.specs.Steps.{Settle, Settles}
+use Rattle.hpx_steps.specs.Steps.{Forget, Learn, Settle, Settles}
 use Rattle.hpx_value.specs.Values.{named}
 
 -- a message brings an action that has no place to go, or none
@@ -413,9 +413,12 @@ module _ (s : Turn) (entries : List Entry) (r : Rules) (h : IsSound r s entries)
   step_homes s' (Writes (Born o state)) g = bears s' o state g
   step_homes s' (Writes (Done a false)) g = subst (Homes s) (sym g.now) (quiet _ refl refl refl refl (λ p m. m))
   step_homes s' (Writes (Done a true)) g = subst (Homes s) (sym g.now) (quiet _ refl refl refl refl (λ p m. m))
-  step_homes s' (Writes (Sent a)) g =
-      let act = named s.tables.here (s.tables.serial + 1) g.message in subst (Homes s) (sym g.now)
-      (posted (draws (record s { due = g.rest })) (wrote (Sent a) (posts act (draws (record s { due = g.rest })))) act refl refl refl refl refl refl (λ w m. m) refl refl (λ p m. m) refl refl refl)
+  step_homes s' (Writes (Sent a)) g = elim g [
+    | inl k ↦
+        let act = named s.tables.here (s.tables.serial + 1) k.message in subst (Homes s) (sym k.now)
+        (posted (draws (record s { due = k.rest })) (wrote (Sent a) (posts act (draws (record s { due = k.rest })))) act refl refl refl refl refl refl (λ w m. m) refl refl (λ p m. m) refl refl refl)
+    | inr k ↦ subst (Homes s) (sym k.now) (quiet _ refl refl refl refl (λ p m. m))
+  ]
   step_homes s' (Writes (Print bytes)) g = subst (Homes s) (sym g.now) (quiet _ refl refl refl refl (λ p m. m))
   step_homes s' (Writes (Merge o log)) g = subst (Homes s) (sym g.now) (quiet _ refl refl refl refl (λ p m. m))
   step_homes s' (Writes (Up o log)) g = elim g [
@@ -441,7 +444,7 @@ module _ (s : Turn) (entries : List Entry) (r : Rules) (h : IsSound r s entries)
   step_homes s' (Writes (Left o to)) g = subst (Homes s) (sym g.now) (mailing _ (cond (is_other s.tables to) false true) (Shipped g.act g.x.state) refl refl refl refl (λ p m. m) refl
       (sent_desk (is_other s.tables to) (Shipped g.act g.x.state) s.tables.desk) (other_object g.act g.x.state))
   step_homes s' (Writes (Landed o)) g = subst (Homes s) (sym g.now) (quiet _ refl refl refl refl dropped)
-  step_homes s' (Writes (Looked o found)) g = absurd g
+  step_homes s' (Writes (Looked o found)) g = subst (Homes s) (sym g.now) (quiet _ refl refl refl refl (λ p m. m))
   step_homes s' Suspend g = subst (Homes s) (sym g.now) (quiet _ refl refl refl refl (λ p m. m))
   step_homes s' Pause g = subst (Homes s) (sym g.now) (quiet _ refl refl refl refl (λ p m. m))
   step_homes s' Place g = subst (Homes s) (sym g.now)
@@ -455,4 +458,6 @@ module _ (s : Turn) (entries : List Entry) (r : Rules) (h : IsSound r s entries)
         | inr k ↦ absurd k
       ]) refl refl (λ p m. m) refl refl refl)
   step_homes s' Settle g = settles s' g
+  step_homes s' Learn g = subst (Homes s) (sym g.now) (quiet _ refl refl refl refl dropped)
+  step_homes s' Forget g = subst (Homes s) (sym g.now) (quiet _ refl refl refl refl (λ p m. m))
   step_homes s' Reorder g = subst (Homes s) (sym g.now) (quiet _ refl refl refl refl (λ p m. m))

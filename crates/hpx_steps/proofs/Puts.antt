@@ -205,7 +205,7 @@ goes t o (Some to) = if_so (stays_here t o && (to == t.here))
 -- where a message may go that carries it
 pub goes_letter : (t : Tables) (act : Act) (to : ℕ) → (to ≡ (target_of act).home) ⊎ ((t.here ≡ (target_of act).home) × IfSome (move_to act) (λ p. p ≡ to)) → MayGoTo t.here to (parcel_for act)
 goes_letter t act to (inl home) = as_parcel (MayGoTo t.here to) act (inl home) (inl home)
-goes_letter t act to (inr own) = as_parcel (MayGoTo t.here to) act (inr own.0) (inr (own.0, subst (λ (m : Option ℕ). IfSome m (λ p. p ≡ to)) (sym (move_to-bare act)) own.1))
+goes_letter t act to (inr own) = as_parcel (MayGoTo t.here to) act (inr (inl own.0)) (inr (own.0, subst (λ (m : Option ℕ). IfSome m (λ p. p ≡ to)) (sym (move_to-bare act)) own.1))
 
 pub way_goes : (t : Tables) (act : Act) → Goes t (target_of act) (move_to act) (way t act)
 way_goes t act = goes t (target_of act) (move_to act)
@@ -238,6 +238,10 @@ put_tidy t act fit near = each (way t act) (way_goes t act)
         → AllByRecursion (IsTidyIn t.here t.localities t.profile.credit_log t.births t.objects) (sent_if true (is_other t to) to p)
     sent to p fits may own granted = mail_tidy t true to p (λ b. fits) (λ b. may) (λ b. own) (λ b. granted)
 
+    by_home : {to : ℕ} → (to ≡ (target_of act).home) ⊎ ((t.here ≡ (target_of act).home) × IfSome (move_to act) (λ p. p ≡ to)) → (to ≡ (target_of act).home) ⊎ (t.here ≡ (target_of act).home)
+    by_home (inl e) = inl e
+    by_home (inr k) = inr k.0
+
     each : (v : Way) → Goes t (target_of act) (move_to act) v → IsTidyIn t.here t.localities t.profile.credit_log t.births t.objects (put_as t v act)
     each Accept k = let a = k.accept refl in (
       fit,
@@ -245,7 +249,7 @@ put_tidy t act fit near = each (way t act) (way_goes t act)
       (and_true (stands_here t (target_of act)) (not (leaves_here t (target_of act))) a.0).0,
     )
     each Queue k = (fit_parcel act fit, as_parcel (IsWaitingFor t.here (target_of act).number) act (k.queue refl, refl) (k.queue refl, refl))
-    each (To to) k = (sent to (parcel_for act) (fit_parcel act fit) (goes_letter t act to (k.onward to refl)) (as_parcel (IsOwn t.here t.profile.credit_log) act tt tt) (λ other. as_parcel (IsGrantFor t.here to) act tt tt)).0
+    each (To to) k = (sent to (parcel_for act) (fit_parcel act fit) (goes_letter t act to (k.onward to refl)) (as_parcel (IsOwn t.here t.profile.credit_log) act tt tt) (λ other. as_parcel (IsGrantFor t.here to) act (by_home (k.onward to refl)) tt)).0
     each (Begin place) k =
         let b = k.begin place refl in
         (sent place (Go act) (move_fit act b.1.0 fit b.1.1) (b.0, λ e. b.1.2.away (some_same b.1.0 place (sym b.1.1 ∙ (sym (move_to-bare act) ∙ e)))) tt (λ other. there place b.1.2.old b.1.2.at (near (target_of act) b.1.2.old b.1.2.was) other)).0

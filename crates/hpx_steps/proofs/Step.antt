@@ -3,7 +3,7 @@ use Rattle.hpx_steps.proofs.Common.{AreNumbered, Asked, Born, Count, Done, Entry
 use Rattle.hpx_steps.proofs.Homes.{Homes, homes_then, step_homes}
 use Rattle.hpx_steps.proofs.Still.{landed_sound}
 use Rattle.hpx_steps.proofs.Then.{grown}
-use Rattle.hpx_steps.specs.Steps.{Settle, Settles}
+use Rattle.hpx_steps.specs.Steps.{Forget, Learn, Settle, Settles}
 use Rattle.hpx_steps.proofs.Tools.{Keeps, Stills, sound_then, still_sound}
 use Rattle.hpx_part.specs.Data.{Looked}
 
@@ -55,7 +55,10 @@ step_sound r s s' (Writes (Split o log)) entries h g = kept r s s' (Split o log)
 step_sound r s s' (Writes (Born o state)) entries h g = kept r s s' (Born o state) entries h (step_homes s entries r h s' (Writes (Born o state)) g) (Rattle.hpx_steps.proofs.Bear.bear_step r s s' entries o state h g)
 step_sound r s s' (Writes (Done a false)) entries h g = kept r s s' (Done a false) entries h (step_homes s entries r h s' (Writes (Done a false)) g) (Rattle.hpx_steps.proofs.Ending.done_step r s s' entries a h g)
 step_sound r s s' (Writes (Done a true)) entries h g = kept r s s' (Done a true) entries h (step_homes s entries r h s' (Writes (Done a true)) g) (Rattle.hpx_steps.proofs.Ending.failed_step r s s' entries a h g)
-step_sound r s s' (Writes (Sent a)) entries h g = kept r s s' (Sent a) entries h (step_homes s entries r h s' (Writes (Sent a)) g) (Rattle.hpx_steps.proofs.Sent.sent_step r s s' entries a h g)
+step_sound r s s' (Writes (Sent a)) entries h g = kept r s s' (Sent a) entries h (step_homes s entries r h s' (Writes (Sent a)) g) (elim g [
+  | inl k ↦ Rattle.hpx_steps.proofs.Sent.sent_step r s s' entries a h k
+  | inr k ↦ Rattle.hpx_steps.proofs.SentOn.sent_on_step r s s' entries a h k
+])
 step_sound r s s' (Writes (Print bytes)) entries h g = kept r s s' (Print bytes) entries h (step_homes s entries r h s' (Writes (Print bytes)) g) (Rattle.hpx_steps.proofs.Print.print_step r s s' entries bytes h g)
 step_sound r s s' (Writes (Merge o log)) entries h g = kept r s s' (Merge o log) entries h (step_homes s entries r h s' (Writes (Merge o log)) g) (Rattle.hpx_steps.proofs.Merge.merge_step r s s' entries o log h g)
 step_sound r s s' (Writes (Up o log)) entries h g = kept r s s' (Up o log) entries h (step_homes s entries r h s' (Writes (Up o log)) g) (elim g [
@@ -76,7 +79,7 @@ step_sound r s s' (Writes (Out to bytes)) entries h g = kept r s s' (Out to byte
 step_sound r s s' (Writes (In bytes)) entries h g = kept r s s' (In bytes) entries h (step_homes s entries r h s' (Writes (In bytes)) g) (Rattle.hpx_steps.proofs.In.in_step r s s' entries bytes h g)
 step_sound r s s' (Writes (Left o to)) entries h g = kept r s s' (Left o to) entries h (step_homes s entries r h s' (Writes (Left o to)) g) (Rattle.hpx_steps.proofs.Departed.left_step r s s' entries o to h g)
 step_sound r s s' (Writes (Landed o)) entries h g = kept r s s' (Landed o) entries h (step_homes s entries r h s' (Writes (Landed o)) g) (Rattle.hpx_steps.proofs.Landing.landed_step r s s' entries o h g)
-step_sound r s s' (Writes (Looked o found)) entries h g = absurd g
+step_sound r s s' (Writes (Looked o found)) entries h g = kept r s s' (Looked o found) entries h (step_homes s entries r h s' (Writes (Looked o found)) g) (Rattle.hpx_steps.proofs.Look.looked_step r s s' entries o found h g)
 step_sound r s s' Suspend entries h g = still r s s' entries h (step_homes s entries r h s' Suspend g) (Rattle.hpx_steps.proofs.Suspend.suspend_step r s s' entries h g)
 step_sound r s s' Pause entries h g = still r s s' entries h (step_homes s entries r h s' Pause g) (Rattle.hpx_steps.proofs.Pause.pause_step r s s' entries h g)
 step_sound r s s' Place entries h g = still r s s' entries h (step_homes s entries r h s' Place g) (Rattle.hpx_steps.proofs.Place.place_step r s s' entries h g)
@@ -84,6 +87,8 @@ step_sound r s s' Mark entries h g = still r s s' entries h (step_homes s entrie
 step_sound r s s' Park entries h g = still r s s' entries h (step_homes s entries r h s' Park g) (Rattle.hpx_steps.proofs.Aside.park_step r s s' entries h g)
 step_sound r s s' Release entries h g = still r s s' entries h (step_homes s entries r h s' Release g) (Rattle.hpx_steps.proofs.Release.release_step r s s' entries h g)
 step_sound r s s' Settle entries h g = settled r s s' entries h g
+step_sound r s s' Learn entries h g = still r s s' entries h (step_homes s entries r h s' Learn g) (Rattle.hpx_steps.proofs.Learned.learn_step r s s' entries h g)
+step_sound r s s' Forget entries h g = still r s s' entries h (step_homes s entries r h s' Forget g) (Rattle.hpx_steps.proofs.Learned.forget_step r s s' entries h g)
 step_sound r s s' Reorder entries h g = still r s s' entries h (step_homes s entries r h s' Reorder g) (Rattle.hpx_steps.proofs.Reorder.reorder_step r s s' entries h g)
 
 pub steps_sound : (r : Rules) (s s' : Turn) (labels : List Label) (entries : List Entry) → IsSound r s entries → Steps r s labels s' → Sound r s s' entries (written labels)

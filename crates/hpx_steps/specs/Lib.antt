@@ -12,5 +12,6 @@ pub mod Numbered
 pub mod Limits
 pub mod Left
 pub mod Ways
+pub mod Cache
 pub mod Flows
 pub mod Homes
