@@ -27,6 +27,7 @@ pub mod Sent
 pub mod SentOn
 pub mod Look
 pub mod Learned
+pub mod Dues
 pub mod Records
 pub mod Returned
 pub mod Print

@@ -1,5 +1,5 @@
 -- The first of what is due is sent to where the cache says that its object is.
-use Rattle.hpx_steps.proofs.Common.{inl, Act, Apply, Bool, Due, Entry, Going, IsDue, IsParcel, IsSound, IsTidy, Item, List, Message, MessageDue, Name, None, Option, Row, Rules, Sent, Some, TidyAt, Turn, View, [], and_true, ap, arith, asked_by, asks_under, bare_act, bare_due, bare_message, brought, causes, draws, eq-eqb, eqb-true, false, flow, follows_sent, freeing, given_to, goes, going, gives_for, grants_here, hopping, inr, joined, leads_away, map, moved_by, named_act, nat_le, nat_tests, not, refl, same_object, sum_by, sum_by-cons, sym, target_of, tells_come, tells_own, true, unpaid, view, waiting, waits_for, weigh, worth, wrote, ℕ, ◌&&◌, ◌++◌, ◌+◌, ◌<◌, ◌==◌, ◌∙◌, ◌∷◌, ◌≡◌, ◌≢◌, ◌≤◌}
+use Rattle.hpx_steps.proofs.Common.{stays_here, inl, Act, Apply, Bool, Due, Entry, Going, IsDue, IsParcel, IsSound, IsTidy, Item, List, Message, MessageDue, Name, None, Option, Row, Rules, Sent, Some, TidyAt, Turn, View, [], and_true, ap, arith, asked_by, asks_under, bare_act, bare_due, bare_message, brought, causes, draws, eq-eqb, eqb-true, false, flow, follows_sent, freeing, given_to, goes, going, gives_for, grants_here, hopping, inr, joined, leads_away, map, moved_by, named_act, nat_le, nat_tests, not, refl, same_object, sum_by, sum_by-cons, sym, target_of, tells_come, tells_own, true, unpaid, view, waiting, waits_for, weigh, worth, wrote, ℕ, ◌&&◌, ◌++◌, ◌+◌, ◌<◌, ◌==◌, ◌∙◌, ◌∷◌, ◌≡◌, ◌≢◌, ◌≤◌}
 use Rattle.hpx_steps.specs.Cache.{elsewhere, hit_at, is_asked_on}
 use Rattle.hpx_steps.specs.Steps.{SendsOn, goes_to}
 use Rattle.hpx_steps.proofs.Tools.{Changes, Keeps, Sees, acting, asks_of, bound_none, by_rows, counts_near, due_change, fewer, first_goes, flowless, frees_of, holding, if_so, more_come, outgoing_change, same_asks, same_dead, same_flows, same_says, same_tracks, same_travels, sees_by, sees_leads, ships_of, then, told_as, view_worth, wait_sum}
@@ -15,6 +15,7 @@ pub record IsAsked (s : Turn) (act : Act) : Type 0 where
   pub other : (act.code == 1) ≡ false
   pub managed : nat_le 16 (target_of act).kind ≡ true
   pub away : ((target_of act).home == s.tables.here) ≡ false
+  pub leaves : stays_here s.tables (target_of act) ≡ false
 
 not_false : (b : Bool) → not b ≡ true → b ≡ false
 not_false true e = cc
@@ -25,7 +26,7 @@ asked_is s act h =
     let a = and_true (not (act.code == 1)) _ h in
     let b = and_true (nat_le 16 (target_of act).kind) _ a.1 in
     let c = and_true (not ((target_of act).home == s.tables.here)) _ b.1 in
-    record { other = not_false _ a.0; managed = b.0; away = not_false _ c.0 }
+    record { other = not_false _ a.0; managed = b.0; away = not_false _ c.0; leaves = not_false _ c.1 }
 
 module _ (r : Rules) (s : Turn) (entries : List Entry) (h : IsSound r s entries) (m : Message) (rest : List Due) (place : ℕ) (fresh : s.fresh ≡ []) (due : s.due ≡ MessageDue m ∷ rest)
     (asks : is_asked_on s.tables (named_act s.tables.here (s.tables.serial + 1) m) ≡ true) (hit : hit_at s.tables (target_of (named_act s.tables.here (s.tables.serial + 1) m)) ≡ Some place)

@@ -111,7 +111,7 @@ among_split x (y ∷ ys) (inl e) = ([], ys, ap (λ z. z ∷ ys) e)
 among_split x (y ∷ ys) (inr h) = let k = among_split x ys h in (y ∷ k.0, k.1, ap (λ zs. y ∷ zs) k.2)
 
 -- what is in one of these is in all of them
-among_flat : (a : Act) (p : Parcel) (ps : List Parcel) → Among p ps → Among a (parcel_acts p) → Among a (flat_map parcel_acts ps)
+pub among_flat : (a : Act) (p : Parcel) (ps : List Parcel) → Among p ps → Among a (parcel_acts p) → Among a (flat_map parcel_acts ps)
 among_flat a p [] h m = absurd h
 among_flat a p (q ∷ qs) (inl e) m = among_left a (parcel_acts q) (flat_map parcel_acts qs) (subst (λ x. Among a (parcel_acts x)) (sym e) m)
 among_flat a p (q ∷ qs) (inr h) m = among_right a (parcel_acts q) (flat_map parcel_acts qs) (among_flat a p qs h m)

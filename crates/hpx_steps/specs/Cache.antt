@@ -1,11 +1,16 @@
 -- The cache: where objects of other homes were last said to be, and what is asked of it.
-use Rattle.std.specs.Prelude.{ℕ, Bool, not, cond, nat_le, List, ◌∷◌, ◌-◌, ◌==◌, ◌&&◌, if◌then◌else◌, is_some, take, Option, Some, None}
+use Rattle.std.specs.Prelude.{ℕ, Bool, not, cond, nat_le, List, [], ◌∷◌, ◌++◌, ◌+◌, ◌<◌, ◌-◌, ◌==◌, ◌&&◌, if◌then◌else◌, is_some, take, Option, Some, None}
+use Rattle.std.specs.List.{AllByRecursion}
 use Rattle.std.specs.Map.{lookup, remove_entry}
 use Rattle.hpx_value.specs.Ids.{bare, same_object}
-use Rattle.hpx_journal.specs.Data.{Id, Act}
-use Rattle.hpx_journal.specs.Entries.{target_of}
+use Rattle.hpx_value.specs.Values.{named}
+use Rattle.hpx_journal.specs.Data.{Id, Act, Apply, Due, MessageDue, PrintDue}
+use Rattle.hpx_journal.specs.Entries.{name_of, target_of}
+use Rattle.hpx_part.specs.Data.{Event, Looked, Print, Sent}
 use Rattle.hpx_tables.specs.Kept.{stays_here}
 use Rattle.hpx_tables.specs.Tables.{Tables}
+use Rattle.hpx_steps.specs.Mail.{going}
+use Rattle.hpx_steps.specs.Ways.{with_act}
 
 -- a place other than here
 abbrev pub elsewhere : ℕ → Option ℕ → Option ℕ
@@ -41,3 +46,37 @@ learned_at o place t = record t {
 -- once what was said of an object is forgotten
 abbrev pub forgot : Id → Tables → Tables
 forgot o t = record t { cache = remove_entry (same_object o) t.cache }
+
+-- each place that it says is below n
+abbrev pub AreNear : ℕ → List (Id × ℕ) → Type 0
+AreNear n cache = AllByRecursion (λ x. x.1 < n) cache
+
+-- ---- what is sent
+
+-- an action goes to where its object was last said to be, or its own way
+abbrev pub with_hit : Act → Option ℕ → Tables → Tables
+with_hit act None t = with_act act t
+with_hit act (Some place) t = record t { outgoing = t.outgoing ++ going place (Apply act) ∷ [] }
+
+-- an action is sent from here: the cache is asked where that is to be
+abbrev pub with_sent : Act → Tables → Tables
+with_sent act t = cond (is_asked_on t act) (asked_for (bare (target_of act)) (with_hit act (hit_at t (target_of act)) t)) (with_act act t)
+
+-- what is written of it
+abbrev pub sent_events : Act → Tables → List Event
+sent_events act t = Sent (name_of act) ∷ cond (is_asked_on t act) (Looked (bare (target_of act)) (is_some (hit_at t (target_of act))) ∷ []) []
+
+-- all that is due, each message under the next serial; prints change nothing
+abbrev pub with_dues : List Due → Tables → Tables
+with_dues [] t = t
+with_dues (MessageDue m ∷ due) t = with_dues due (with_sent (named t.here (t.serial + 1) m) (record t { serial = t.serial + 1 }))
+with_dues (PrintDue bytes ∷ due) t = with_dues due t
+
+-- what is written of it
+abbrev pub written_dues : List Due → Tables → List Event
+written_dues [] t = []
+written_dues (MessageDue m ∷ due) t =
+    let act = named t.here (t.serial + 1) m in
+    let u = record t { serial = t.serial + 1 } in
+    sent_events act u ++ written_dues due (with_sent act u)
+written_dues (PrintDue bytes ∷ due) t = Print bytes ∷ written_dues due t
