@@ -6,7 +6,7 @@ use Rattle.hpx_steps.proofs.Changes.{among_either, first_leaves, last_comes}
 use Rattle.hpx_steps.proofs.Puts.{Goes, as_parcel, remade_others, remade_own, root_stays, way_goes}
 use Rattle.hpx_steps.proofs.Stranded.{IsStranded, stranded_now, way_strands}
 use Rattle.hpx_steps.specs.Homes.{HasHomes, IsOwnMail, WaitsWell, WasStranded}
-use Rattle.hpx_steps.specs.Steps.{Forget, Learn, Settle, Settles}
+use Rattle.hpx_steps.specs.Steps.{Forget, Hint, Learn, Settle, Settles}
 use Rattle.hpx_value.specs.Values.{named}
 
 -- a message brings an action that has no place to go, or none
@@ -460,4 +460,5 @@ module _ (s : Turn) (entries : List Entry) (r : Rules) (h : IsSound r s entries)
   step_homes s' Settle g = settles s' g
   step_homes s' Learn g = subst (Homes s) (sym g.now) (quiet _ refl refl refl refl dropped)
   step_homes s' Forget g = subst (Homes s) (sym g.now) (quiet _ refl refl refl refl (λ p m. m))
+  step_homes s' Hint g = subst (Homes s) (sym g.now) (quiet _ refl refl refl refl (λ p m. m))
   step_homes s' Reorder g = subst (Homes s) (sym g.now) (quiet _ refl refl refl refl (λ p m. m))

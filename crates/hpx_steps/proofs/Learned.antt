@@ -1,8 +1,9 @@
--- Where objects are said to be: it is learned, or forgotten. No entry is written.
-use Rattle.hpx_steps.proofs.Common.{Cached, Came, Entry, HasInHand, Id, IsParcel, IsSound, Item, List, Mailed, None, Row, Rules, TidyAt, Token, Turn, [], arith, asked_by, asks_under, brought, drops, flow, freeing, given_to, grants_here, hopping, joined, leads_away, moved_by, own, parcel_tokens, refl, subst, sum_by, sym, tells_come, tells_own, unpaid, view, waits_for, weigh, worth, ℕ, ◌++◌, ◌+◌, ◌==◌, ◌∷◌, ◌≡◌, ◌≢◌, ◌≤◌}
+-- Where objects are said to be: it is learned, forgotten, or told to another locality. No entry is written.
+use Rattle.hpx_steps.proofs.Common.{Going, gives_for, going, is_other, true, ◌<◌, Cached, Came, Entry, HasInHand, Id, IsParcel, IsSound, Item, List, Mailed, None, Row, Rules, TidyAt, Token, Turn, [], arith, asked_by, asks_under, brought, drops, flow, freeing, given_to, grants_here, hopping, joined, leads_away, moved_by, own, parcel_tokens, refl, subst, sum_by, sym, tells_come, tells_own, unpaid, view, waits_for, weigh, worth, ℕ, ◌++◌, ◌+◌, ◌==◌, ◌∷◌, ◌≡◌, ◌≢◌, ◌≤◌}
 use Rattle.hpx_steps.specs.Cache.{forgot, learned_at}
-use Rattle.hpx_steps.specs.Steps.{Forgets, Learns}
-use Rattle.hpx_steps.proofs.Tools.{Changes, Sees, Stills, acting, asks_of, by_rows, drop_change, fewer, flowless, frees_of, hand_fit, hand_weighs, holding, in_hand, is_frame, same_asks, same_dead, same_flows, same_says, same_tracks, same_travels, same_waits, sees_leads, ships_of, view_worth}
+use Rattle.hpx_steps.specs.Steps.{Forgets, Hints, Learns, goes_to}
+use Rattle.hpx_steps.proofs.Mails.{other_is}
+use Rattle.hpx_steps.proofs.Tools.{bound_none, more_come, outgoing_change, Changes, Sees, Stills, acting, asks_of, by_rows, drop_change, fewer, flowless, frees_of, hand_fit, hand_weighs, holding, in_hand, is_frame, same_asks, same_dead, same_flows, same_says, same_tracks, same_travels, same_waits, sees_leads, ships_of, view_worth}
 
 -- ---- it is forgotten: nothing else changes
 
@@ -113,3 +114,62 @@ module _ (r : Rules) (s : Turn) (entries : List Entry) (h : IsSound r s entries)
 
 pub learn_step : (r : Rules) (s s' : Turn) (entries : List Entry) → IsSound r s entries → Learns s s' → Stills r s s'
 learn_step r s s' entries h g = subst (Stills r s) (sym g.now) (learn_stills r s entries h g.id g.place g.hand (learned_at g.id g.place s.tables).cache)
+
+-- ---- it is told
+
+module _ (r : Rules) (s : Turn) (entries : List Entry) (h : IsSound r s entries) (o : Id) (place to : ℕ) (fit : IsParcel (Cached o place)) (home : s.tables.here ≡ o.home)
+    (other : is_other s.tables to ≡ true) (away : place ≢ to) (near : place < s.tables.localities) where
+  abbrev said : Turn
+  said = goes_to to (Cached o place) s
+
+  abbrev item : Item
+  item = Going (going to (Cached o place))
+
+  goes : Changes [] (item ∷ []) s said
+  goes = outgoing_change [] (item ∷ []) s (s.tables.outgoing ++ going to (Cached o place) ∷ []) (more_come Going s.tables.outgoing (going to (Cached o place) ∷ []))
+
+  more : (w : Item → ℕ) → w (Going (going to (Cached o place))) ≡ 0 → weigh w said ≡ weigh w s
+  more w a = let k : weigh w said + 0 ≡ weigh w s + (w item + 0) = goes.0 w in omega (arith, k, a)
+
+  sees_said : Sees (view s) said
+  sees_said = record {
+    rest = refl;
+    waiting = λ f. same_waits f s said (more (acting f) refl);
+    fired = λ f. refl;
+    objects = λ f. refl;
+    travels = λ f. same_travels f s said (more (ships_of f) refl);
+    tokens = λ f weight. omega (arith, view_worth f s, view_worth f said, more (worth f) (no_tokens f o place fit));
+    asking = λ x. refl;
+    asks = λ x. same_asks x s said (more (asks_of x) refl);
+    live = λ x at. refl;
+    dead = λ x. same_dead x s said (omega (arith, more (frees_of x) refl));
+    refusals = λ x k. k;
+    failing = omega arith;
+  }
+
+  hint_stills : Stills r s (goes_to to (Cached o place) s)
+  hint_stills = record {
+    same = refl;
+    leads = sees_leads r (view s) said sees_said;
+    tidy = holding (TidyAt s) (item ∷ []) s said goes.1 h.tidy ((fit, record { somewhere = (other_is s.tables to other).0; near = near; away = (other_is s.tables to other).1; may = (home, away) }, tt), tt);
+    places = h.places;
+    commits = h.commits;
+    numbered = fewer s said (omega arith) (λ n. omega (arith, more (asks_under n) refl));
+    rows = λ row own. more (unpaid row) (unowed row);
+    once = omega (arith, more hopping refl);
+    fired = omega (arith, more joined refl);
+    frees = λ x. omega (arith, more (freeing x) refl);
+    says = same_says (λ q j. 0) (λ q. 0) s said refl (λ q j. omega (arith, more (tells_come q j) refl)) (λ q. omega (arith, more (tells_own q) refl));
+    came = omega arith;
+    arrived = λ a. omega (arith, h.arrived a, more (brought a) refl, more (moved_by a) refl);
+    flows = same_flows r None s said refl (λ x. refl) (λ f own. omega (arith, more (flow s.tables.here f) ((flowless s.tables.here f (Cached o place) tt).1 to)));
+    tracks = same_tracks (λ q. 0) (λ q. 0) s said (λ q. refl) refl refl (λ q. omega (arith, more (grants_here q) refl)) (λ q. omega (arith, more (leads_away s.tables.here q) refl));
+    asked = λ x n. omega (arith, more (asked_by s.tables.here x n) refl, more (waits_for x n) refl);
+    given = λ j d x n. omega (arith, more (given_to j x n) (bound_none (to == j) (gives_for x n (Cached o place)) refl));
+  }
+    where
+      unowed : (row : Row) → unpaid row item ≡ 0
+      unowed = by_rows (λ row. unpaid row item ≡ 0) refl refl refl refl refl refl refl refl refl refl refl (λ x. refl) (λ x j. refl) (λ x j. refl) (λ x j. refl) (λ x. refl)
+
+pub hint_step : (r : Rules) (s s' : Turn) (entries : List Entry) → IsSound r s entries → Hints s s' → Stills r s s'
+hint_step r s s' entries h g = subst (Stills r s) (sym g.now) (hint_stills r s entries h g.o g.place g.to g.bare g.home g.other g.away g.near)

@@ -63,7 +63,7 @@ module _ (r : Rules) (s : Turn) (entries : List Entry) (h : IsSound r s entries)
 
   tidy : IsTidy now
   tidy = holding (TidyAt s) (item ∷ []) s now change.1 h.tidy (
-    (fit, record { somewhere = near; away = not_here s.tables.here place _ hit; may = inr (inr (let k = its.managed in search (arith, nat_tests, k))) }, tt),
+    (fit, record { somewhere = near; near = tt; away = not_here s.tables.here place _ hit; may = inr (inr (let k = its.managed in search (arith, nat_tests, k))) }, tt),
     tt,
   )
 

@@ -37,7 +37,7 @@ use Rattle.hpx_steps.specs.Items.{Among}
 use Rattle.hpx_steps.specs.Paused.{HasSplit}
 use Rattle.hpx_steps.specs.Turn.{Turn, commits, tokens_of, bare_due, bare_standing, waiting}
 use Rattle.hpx_steps.specs.Rows.{kind_of}
-use Rattle.hpx_steps.specs.Mail.{going, mails, mails_if, draws, wrote}
+use Rattle.hpx_steps.specs.Mail.{going, is_other, mails, mails_if, draws, wrote}
 use Rattle.hpx_steps.specs.Sound.{IsStray, arrival_of, away_here}
 use Rattle.hpx_steps.specs.Ways.{Accept, way, posts}
 use Rattle.hpx_steps.specs.Cache.{asked_for, forgot, hit_at, is_asked_on, learned_at}
@@ -600,6 +600,18 @@ pub record Forgets (s s' : Turn) : Type 0 where
   pub o : Id
   pub now : s' ≡ record s { tables = forgot o s.tables }
 
+-- the home of an object tells another locality where that is
+pub record Hints (s s' : Turn) : Type 0 where
+  pub o : Id
+  pub place : ℕ
+  pub to : ℕ
+  pub bare : IsParcel (Cached o place)
+  pub home : s.tables.here ≡ o.home
+  pub other : is_other s.tables to ≡ true
+  pub away : place ≢ to
+  pub near : place < s.tables.localities
+  pub now : s' ≡ goes_to to (Cached o place) s
+
 -- the first action that waits for an object of a number goes its way
 pub record Releases (s s' : Turn) : Type 0 where
   pub number : ℕ
@@ -637,6 +649,7 @@ pub data Label : Type 0 where
   Settle : Label
   Learn : Label
   Forget : Label
+  Hint : Label
   Reorder : Label
 
 -- one step
@@ -672,6 +685,7 @@ Step r s Release s' = Releases s s'
 Step r s Settle s' = Settles s s'
 Step r s Learn s' = Learns s s'
 Step r s Forget s' = Forgets s s'
+Step r s Hint s' = Hints s s'
 Step r s Reorder s' = Reorders s s'
 
 -- one step after another
