@@ -28,6 +28,7 @@ pub mod SentOn
 pub mod Look
 pub mod Learned
 pub mod Dues
+pub mod Taken
 pub mod Records
 pub mod Returned
 pub mod Print

@@ -4,13 +4,13 @@ use Rattle.std.specs.List.{AllByRecursion}
 use Rattle.std.specs.Map.{lookup, remove_entry}
 use Rattle.hpx_value.specs.Ids.{bare, same_object}
 use Rattle.hpx_value.specs.Values.{named}
-use Rattle.hpx_journal.specs.Data.{Id, Act, Apply, Due, MessageDue, PrintDue}
+use Rattle.hpx_journal.specs.Data.{Id, Act, Apply, Cached, Due, MessageDue, PrintDue}
 use Rattle.hpx_journal.specs.Entries.{name_of, target_of}
 use Rattle.hpx_part.specs.Data.{Event, Looked, Print, Sent}
 use Rattle.hpx_tables.specs.Kept.{stays_here}
 use Rattle.hpx_tables.specs.Tables.{Tables}
-use Rattle.hpx_steps.specs.Mail.{going}
-use Rattle.hpx_steps.specs.Ways.{with_act}
+use Rattle.hpx_steps.specs.Mail.{going, is_other}
+use Rattle.hpx_steps.specs.Ways.{To, Way, way, with_act}
 
 -- a place other than here
 abbrev pub elsewhere : ℕ → Option ℕ → Option ℕ
@@ -80,3 +80,23 @@ written_dues (MessageDue m ∷ due) t =
     let u = record t { serial = t.serial + 1 } in
     sent_events act u ++ written_dues due (with_sent act u)
 written_dues (PrintDue bytes ∷ due) t = Print bytes ∷ written_dues due t
+
+-- ---- what is taken
+
+-- the home of an object tells another locality where that is, which is another again
+abbrev pub tells_of : Tables → Act → ℕ → Bool
+tells_of t act place = is_other t place && (is_other t act.origin && not (place == act.origin))
+
+-- behind an action that was taken from a frame, on a managed object, and is no MOVE: where it goes home, what was said of its object is
+-- forgotten; where it goes on from there, the locality that it is from is told
+abbrev pub with_hint : Way → Act → Tables → Tables
+with_hint (To place) act t = cond (not (act.code == 1) && nat_le 16 (target_of act).kind)
+    (cond ((target_of act).home == t.here)
+    (cond (tells_of t act place) (record t { outgoing = t.outgoing ++ going act.origin (Cached (bare (target_of act)) place) ∷ [] }) t)
+    (forgot (target_of act) t))
+    t
+with_hint _ act t = t
+
+-- an action that was taken from a frame goes its way
+abbrev pub with_taken : Act → Tables → Tables
+with_taken act t = with_hint (way t act) act (with_act act t)
