@@ -5,8 +5,8 @@ use hpx_ports::memory_source::SureSource;
 use hpx_ports::order::Order;
 use hpx_ports::sink::Sink;
 use hpx_ports::source::Source;
-use hpx_top::run::run;
-use hpx_value::items::{Bytes, Items, Text};
+use hpx_top::run::{End, run};
+use hpx_value::items::{Bytes, Items, Text, Texts};
 use hpx_value::memory::OutOfMemory;
 use std::alloc::Global;
 
@@ -17,8 +17,39 @@ pub const COMMANDS: &[u8] = b"commands: reset, add [amount], query, help, quit\n
 #[derive(Drop)]
 pub struct Ended {
     pub status: u8,
-    pub line: Vec<u8>,
+    pub line: SureSink,
     pub entries: u64,
+}
+
+/// The accumulator over two localities.
+fn accumulator(alloc: Global) -> Result<Texts, OutOfMemory> {
+    let mut words = Items::new(alloc);
+    for word in [b"accumulator".as_slice(), b"--hpx:localities=2"] {
+        words.push(Text::from_vec(Vec::from_slice(alloc, word)?))?;
+    }
+    Ok(words)
+}
+
+/// How many entries the journal has, where there is one.
+fn entries_of(end: &End<SureFabric>) -> u64 {
+    match &end.world {
+        Some(world) => world.journal().entries(),
+        None => 0,
+    }
+}
+
+/// The status of a run on these words, and how many entries its journal has. What `run` says of it is not needed behind it.
+fn run_over<S: Source, K: Sink>(
+    alloc: Global,
+    words: &Texts,
+    source: &mut S,
+    sink: &mut K,
+    err: &mut SureSink,
+    order: Order,
+) -> (u8, u64) {
+    let fabric = SureFabric::new(alloc, order);
+    let end = run(alloc, words, source, sink, err, fabric);
+    (end.status, entries_of(&end))
 }
 
 /// The accumulator over two localities.
@@ -28,20 +59,12 @@ pub fn session<S: Source, K: Sink>(
     sink: &mut K,
     order: Order,
 ) -> Result<Ended, OutOfMemory> {
-    let mut words = Items::new(alloc);
-    for word in [b"accumulator".as_slice(), b"--hpx:localities=2"] {
-        words.push(Text::from_vec(Vec::from_slice(alloc, word)?))?;
-    }
-    let mut err = SureSink::new(alloc);
-    let fabric = SureFabric::new(alloc, order);
-    let end = run(alloc, &words, source, sink, &mut err, fabric);
-    let entries = match &end.world {
-        Some(world) => world.journal().entries(),
-        None => 0,
-    };
+    let words = accumulator(alloc)?;
+    let mut line = SureSink::new(alloc);
+    let (status, entries) = run_over(alloc, &words, source, sink, &mut line, order);
     Ok(Ended {
-        status: end.status,
-        line: Vec::from_slice(alloc, err.bytes())?,
+        status,
+        line,
         entries,
     })
 }
@@ -51,11 +74,11 @@ pub fn printed(
     alloc: Global,
     input: Vec<u8>,
     order: Order,
-) -> Result<(Vec<u8>, Ended), OutOfMemory> {
+) -> Result<(SureSink, Ended), OutOfMemory> {
     let mut source = SureSource::new(Bytes::from_vec(input));
     let mut sink = SureSink::new(alloc);
     let ended = session(alloc, &mut source, &mut sink, order)?;
-    Ok((Vec::from_slice(alloc, sink.bytes())?, ended))
+    Ok((sink, ended))
 }
 
 /// So many times the same bytes, behind others.

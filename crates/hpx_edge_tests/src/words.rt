@@ -9,6 +9,7 @@ use hpx_value::items::{Bytes, Items, Text, Texts};
 use hpx_value::memory::OutOfMemory;
 use std::alloc::Global;
 use std::env::{Env, FillError};
+use std::process::Abort;
 use std::test::Fail;
 
 /// The environment of a program that was started with these words, behind its name.
@@ -41,26 +42,49 @@ impl<'a> Env for Started<'a> {
 #[derive(Drop)]
 struct Written {
     status: u8,
-    text: Vec<u8>,
-    line: Vec<u8>,
+    text: SureSink,
+    line: SureSink,
+}
+
+/// An input of two lines.
+fn two_lines(alloc: Global) -> Result<SureSource, OutOfMemory> {
+    let bytes = Vec::from_slice(alloc, b"add 5\nquery\n")?;
+    Ok(SureSource::new(Bytes::from_vec(bytes)))
+}
+
+/// The status of the program on these words. What `program` says of it is not needed behind it.
+fn status_of<W: Words>(
+    alloc: Global,
+    given: &W,
+    source: &mut SureSource,
+    text: &mut SureSink,
+    line: &mut SureSink,
+) -> u8 {
+    let fabric = SureFabric::new(alloc, Order::FirstIn);
+    program(alloc, given, source, text, line, fabric).status
 }
 
 /// The program on these words, and on an input of two lines.
 fn run_on<W: Words>(alloc: Global, given: &W) -> Result<Written, OutOfMemory> {
-    let input = Vec::from_slice(alloc, b"add 5\nquery\n")?;
-    let mut source = SureSource::new(Bytes::from_vec(input));
-    let mut sink = SureSink::new(alloc);
-    let mut err = SureSink::new(alloc);
-    let fabric = SureFabric::new(alloc, Order::FirstIn);
-    let end = program(alloc, given, &mut source, &mut sink, &mut err, fabric);
-    Ok(Written {
-        status: end.status,
-        text: Vec::from_slice(alloc, sink.bytes())?,
-        line: Vec::from_slice(alloc, err.bytes())?,
-    })
+    let mut source = two_lines(alloc)?;
+    let mut text = SureSink::new(alloc);
+    let mut line = SureSink::new(alloc);
+    let status = status_of(alloc, given, &mut source, &mut text, &mut line);
+    Ok(Written { status, text, line })
 }
 
-/// The same words in memory.
+/// The program on words that the system gives.
+fn run_by_system(alloc: Global, words: &[&[u8]]) -> Result<Written, OutOfMemory> {
+    run_on(alloc, &EnvWords::new(&Started(words)))
+}
+
+/// The program on the same words in memory.
+fn run_in_memory(alloc: Global, words: &[&[u8]]) -> Result<Written, OutOfMemory> {
+    let words = texts(alloc, words)?;
+    run_on(alloc, &MemWords { words })
+}
+
+/// Words in memory.
 fn texts(alloc: Global, words: &[&[u8]]) -> Result<Texts, OutOfMemory> {
     let mut texts = Items::new(alloc);
     for word in words {
@@ -131,42 +155,45 @@ const ROWS: [Row; 12] = [
     ),
 ];
 
+/// A program ended with its text, or with this line for errors.
+fn assert_written(rt: &impl Abort, i: usize, line: &[u8], written: &Written) {
+    let (status, text) = if line.is_empty() {
+        (0, TEXT)
+    } else {
+        (1, b"".as_slice())
+    };
+    assert_eq!(rt; written.status, status, "row {i}");
+    assert_eq!(rt; written.text.bytes(), text, "row {i}");
+    assert_eq!(rt; written.line.bytes(), line, "row {i}");
+}
+
 #[test]
 fn the_words_are_read_whole(rt: HostRuntime) -> Result<(), Fail> {
     let alloc = rt.alloc();
     for (i, (words, line)) in ROWS.iter().enumerate() {
-        let (status, text) = if line.is_empty() {
-            (0, TEXT)
-        } else {
-            (1, b"".as_slice())
-        };
-        let by_system = run_on(alloc, &EnvWords::new(&Started(*words)))?;
-        let in_memory = run_on(
-            alloc,
-            &MemWords {
-                words: texts(alloc, *words)?,
-            },
-        )?;
-        for written in [by_system, in_memory] {
-            assert_eq!(rt; written.status, status, "row {i}");
-            assert_eq!(rt; written.text.as_slice(), text, "row {i}");
-            assert_eq!(rt; written.line.as_slice(), *line, "row {i}");
-        }
+        let by_system = run_by_system(alloc, words)?;
+        assert_written(&rt, i, line, &by_system);
+        let in_memory = run_in_memory(alloc, words)?;
+        assert_written(&rt, i, line, &in_memory);
     }
     Ok(())
+}
+
+/// The program on 2,000 words behind those that fit.
+fn run_on_many(alloc: Global) -> Result<Written, OutOfMemory> {
+    let mut words = Vec::from_slice(alloc, &[b"accumulator".as_slice(), b"--hpx:localities=2"])?;
+    for _ in 0..2000 {
+        words.push(b"more".as_slice())?;
+    }
+    run_by_system(alloc, words.as_slice())
 }
 
 // 2,000 words behind those that fit: the first of them is named.
 #[test]
 fn too_many_words_are_refused(rt: HostRuntime) -> Result<(), Fail> {
-    let alloc = rt.alloc();
-    let mut words = Vec::from_slice(alloc, &[b"accumulator".as_slice(), b"--hpx:localities=2"])?;
-    for _ in 0..2000 {
-        words.push(b"more".as_slice())?;
-    }
-    let written = run_on(alloc, &EnvWords::new(&Started(words.as_slice())))?;
+    let written = run_on_many(rt.alloc())?;
     assert_eq!(rt; written.status, 1);
-    assert_eq!(rt; written.text.as_slice(), b"".as_slice());
-    assert_eq!(rt; written.line.as_slice(), b"hpx: bad word 3\n".as_slice());
+    assert_eq!(rt; written.text.bytes(), b"".as_slice());
+    assert_eq!(rt; written.line.bytes(), b"hpx: bad word 3\n".as_slice());
     Ok(())
 }
