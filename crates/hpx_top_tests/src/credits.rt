@@ -1,37 +1,57 @@
 //! Sessions by the credit of their accumulator, as the audit tells it.
-use crate::runs::{Ended, adds, session};
+use crate::ended::{NONE, end_of, open_ports};
+use crate::runs::{WORDS, adds};
+use crate::worlds::{ORDERS, audit, drain, feed, printed};
 use app_console::lines::{ACCUMULATOR, marked};
-use hpx_space_tests::worlds::{ORDERS, audit, drain, feed, printed};
+use hpx_ports::memory_fabric::MemFabric;
+use hpx_ports::order::Order;
+use hpx_top::acts::AllActs;
+use hpx_top::run::End;
 use hpx_value::memory::OutOfMemory;
+use hpx_world::world::World;
 use std::alloc::Global;
 use std::test::Fail;
 
-/// The audit where the input has ended, and what a query prints that is fed then.
-fn told(alloc: Global, ended: Ended) -> Result<(String, Vec<u8>), OutOfMemory> {
-    let Ended {
-        status: _,
-        text: _,
-        line: _,
-        world,
-        cuts: _,
-        mut fabric,
-    } = ended;
-    let Some(mut world) = world else {
-        return Err(OutOfMemory);
-    };
-    let audit = audit(alloc, &world)?;
+/// What a query prints.
+fn asked(
+    alloc: Global,
+    world: &mut World<AllActs>,
+    fabric: &mut MemFabric,
+) -> Result<Vec<u8>, OutOfMemory> {
     let cut = world.journal().entries();
-    let query = marked(alloc, ACCUMULATOR, b"query")?;
-    feed(alloc, &mut world, query, &mut fabric)?;
-    drain(alloc, &mut world, &mut fabric)?;
-    Ok((audit, printed(alloc, world.journal(), cut)?))
+    feed(alloc, world, marked(alloc, ACCUMULATOR, b"query")?, fabric)?;
+    drain(alloc, world, fabric)?;
+    printed(alloc, world.journal(), cut)
+}
+
+/// The audit of a world, and what a query prints that is fed then.
+fn told_by(
+    alloc: Global,
+    world: &mut World<AllActs>,
+    fabric: &mut MemFabric,
+) -> Result<(String, Vec<u8>), OutOfMemory> {
+    let audit = audit(alloc, world)?;
+    Ok((audit, asked(alloc, world, fabric)?))
+}
+
+/// The audit where the input has ended, and what a query prints that is fed then.
+fn told_at(alloc: Global, mut end: End<MemFabric>) -> Result<(String, Vec<u8>), OutOfMemory> {
+    match &mut end.world {
+        Some(world) if end.status == 0 => told_by(alloc, world, &mut end.fabric),
+        _ => Err(OutOfMemory),
+    }
+}
+
+/// That of a session of so many lines.
+fn told(alloc: Global, lines: u32, order: Order) -> Result<(String, Vec<u8>), OutOfMemory> {
+    let mut ports = open_ports(alloc, adds(alloc, lines)?.as_slice(), &NONE)?;
+    told_at(alloc, end_of(alloc, WORDS, &mut ports, order, &NONE)?)
 }
 
 // Each line halves the credit of the session's id, and the half comes back with the answer. So however many lines there are, all
 // credit is held in the end, and none is asked for.
 #[test]
 fn the_audit_tells_the_credit_of_the_accumulator(rt: HostRuntime) -> Result<(), Fail> {
-    let alloc = rt.alloc();
     for order in ORDERS {
         for (lines, sum) in [
             (0u32, b"0\n".as_slice()),
@@ -40,10 +60,7 @@ fn the_audit_tells_the_credit_of_the_accumulator(rt: HostRuntime) -> Result<(), 
             (31, b"31\n"),
             (32, b"32\n"),
         ] {
-            let input = adds(alloc, lines)?;
-            let ended = session(alloc, input.as_slice(), order)?;
-            assert_eq!(rt; ended.status, 0);
-            let (audit, query) = told(alloc, ended)?;
+            let (audit, query) = told(rt.alloc(), lines, order)?;
             assert_eq!(rt;
                 audit.as_str(),
                 "1.1 recorded 2147483648 held 2147483648 flight 0 at 1\n"

@@ -1,7 +1,8 @@
 //! 300 sessions made from the numbers 1 to 300, a third of them over each order of delivery.
-use crate::runs::{Ended, session};
+use crate::ended::Ended;
+use crate::runs::session;
+use crate::worlds::Asks;
 use hpx_ports::order::Order;
-use hpx_space_tests::worlds::{Asks, PROFILE, asks_in, is_legal};
 use hpx_value::memory::OutOfMemory;
 use std::alloc::Global;
 use std::test::Fail;
@@ -110,31 +111,40 @@ fn generated(alloc: Global, start: u64) -> Result<(Vec<u8>, Plain), OutOfMemory>
     Ok((input, plain))
 }
 
-/// How often a session asks for credit that has the text of one number and a legal journal.
-fn asked(alloc: Global, ended: &Ended, plain: &Plain) -> Option<Asks> {
-    match &ended.world {
-        Some(world)
-            if ended.status == 0
+/// No credit was asked for, and no action failed.
+const NO_ASKS: Asks = Asks {
+    asked: 0,
+    granted: 0,
+    refused: 0,
+    given: 0,
+    failed: 0,
+};
+
+/// Whether a session has the text of one number and a legal journal, and asks for no credit, since each answer brings it back.
+fn is_right(ended: &Ended, plain: &Plain) -> bool {
+    match &ended.left.told {
+        Some(told) => {
+            ended.left.status == 0
                 && ended.text.as_slice() == plain.text.as_slice()
-                && is_legal(alloc, world, PROFILE) => { Some(asks_in(world.journal())) }
-        _ => None,
+                && told.legal
+                && told.asks == NO_ASKS
+        }
+        None => false,
     }
 }
 
-/// How many of the sessions of every third number are right, from this one on. None asks for credit, since each answer brings it back.
-fn a_third(alloc: Global, first: u64, order: Order) -> Result<u32, Fail> {
+/// Whether the session that is made from a number is right.
+fn is_one_right(alloc: Global, start: u64, order: Order) -> Result<bool, OutOfMemory> {
+    let (input, plain) = generated(alloc, start)?;
+    let ended = session(alloc, input.as_slice(), order)?;
+    Ok(is_right(&ended, &plain))
+}
+
+/// How many of the sessions of every third number are right, from this one on.
+fn a_third(alloc: Global, first: u64, order: Order) -> Result<u32, OutOfMemory> {
     let mut right = 0u32;
     for i in 0..100u64 {
-        let (input, plain) = generated(alloc, first.saturating_add(3 * i))?;
-        let ended = session(alloc, input.as_slice(), order)?;
-        let none = Asks {
-            asked: 0,
-            granted: 0,
-            refused: 0,
-            given: 0,
-            failed: 0,
-        };
-        if asked(alloc, &ended, &plain) == Some(none) {
+        if is_one_right(alloc, first.saturating_add(3 * i), order)? {
             right = right.saturating_add(1);
         }
     }

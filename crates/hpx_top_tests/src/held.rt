@@ -1,11 +1,13 @@
 //! Sessions of `space` in which delivery is held back, and what the top call itself prints.
-use crate::runs::{Ended, NONE, ran};
+use crate::ended::{Ended, NONE, ran};
 use crate::spaces::{count, without_prompts};
+use crate::worlds::ORDERS;
 use app_console::say::help;
 use app_console::table::Console;
-use hpx_journal::entry::Event;
 use hpx_ports::order::Order;
-use hpx_space_tests::worlds::ORDERS;
+use hpx_value::memory::OutOfMemory;
+use std::alloc::{AllocError, Global};
+use std::process::Abort;
 use std::test::Fail;
 
 const TWO: &[&[u8]] = &[b"space", b"--hpx:localities=2"];
@@ -137,44 +139,39 @@ error: bad command\nerror: bad command\nerror: bad command\nerror: bad command\n
     ),
 ];
 
-/// The kind of a frame that brings an object. It is the second byte.
-const OBJECT: u8 = 8;
+/// A run printed what its row says, with a prompt for each line.
+fn assert_text(rt: &impl Abort, i: usize, row: &Row, text: &[u8], plain: &[u8]) {
+    let (console, _, input, want, _) = row;
+    assert_eq!(rt; plain.strip_prefix(help(*console)), Some(*want), "{i}");
+    let prompts = count(input, b'\n').saturating_add(2);
+    assert_eq!(rt; count(text, b'>'), prompts, "{i}");
+}
 
-/// How many frames brought an object.
-fn objects(ended: &Ended) -> usize {
-    let mut objects = 0usize;
-    if let Some(world) = &ended.world {
-        for entry in world.journal().as_slice() {
-            if let Event::Out { bytes, .. } = &entry.event {
-                if bytes.as_slice().get(1) == Some(&OBJECT) {
-                    objects = objects.saturating_add(1);
-                }
-            }
-        }
-    }
-    objects
+/// A run ended as its row says.
+fn assert_is(
+    rt: &impl Abort,
+    alloc: Global,
+    i: usize,
+    row: &Row,
+    ended: &Ended,
+) -> Result<(), Fail> {
+    assert_eq!(rt; ended.status(), (0, b"".as_slice()), "{i}");
+    let plain = without_prompts(alloc, ended.text.as_slice())?;
+    assert_text(rt, i, row, ended.text.as_slice(), plain.as_slice());
+    let objects = match ended.left.told {
+        Some(told) => told.objects,
+        None => 0,
+    };
+    assert_eq!(rt; objects, row.4, "{i}");
+    Ok(())
 }
 
 #[test]
 fn what_is_held_back_is_told_and_let_go(rt: HostRuntime) -> Result<(), Fail> {
-    let alloc = rt.alloc();
     for order in ORDERS {
-        for (i, (console, words, input, want, frames)) in ROWS.iter().enumerate() {
-            let ended = ran(alloc, words, input, order, NONE)?;
-            assert_eq!(rt;
-                (ended.status, ended.line.as_slice()),
-                (0, b"".as_slice()),
-                "{i}"
-            );
-            let text = without_prompts(alloc, ended.text.as_slice())?;
-            assert_eq!(rt;
-                text.as_slice().strip_prefix(help(*console)),
-                Some(*want),
-                "{i}"
-            );
-            let prompts = count(ended.text.as_slice(), b'>');
-            assert_eq!(rt; prompts, count(input, b'\n').saturating_add(2), "{i}");
-            assert_eq!(rt; objects(&ended), *frames, "{i}");
+        for (i, row) in ROWS.iter().enumerate() {
+            let ended = ran(rt.alloc(), row.1, row.2, order, NONE)?;
+            assert_is(&rt, rt.alloc(), i, row, &ended)?;
         }
     }
     Ok(())
@@ -196,28 +193,52 @@ const HELD: [Held; 5] = [
     (Order::LastIn, b"new a 1\nhold\nadd a 5\nquery a\n", b"0\n"),
 ];
 
+/// What a session of two localities prints behind this front, and its status.
+fn tail(
+    alloc: Global,
+    input: &[u8],
+    order: Order,
+    front: &[u8],
+) -> Result<(u8, Vec<u8>), AllocError> {
+    let ended = ran(alloc, TWO, input, order, NONE)?;
+    let tail = ended.text.as_slice().strip_prefix(front).unwrap_or(b"");
+    Ok((ended.left.status, Vec::from_slice(alloc, tail)?))
+}
+
+/// The commands, and a prompt for each of four lines.
+fn four_prompts(alloc: Global) -> Result<Vec<u8>, AllocError> {
+    let mut front = Vec::from_slice(alloc, help(Console::Space))?;
+    front.extend_from_slice(b"> > > > ")?;
+    Ok(front)
+}
+
+/// How many steps it takes, of at most 40, until the answer comes before the last prompt.
+fn steps(rt: &impl Abort, alloc: Global, i: usize, row: &Held) -> Result<u32, Fail> {
+    let (order, lines, answer) = row;
+    let mut input = Vec::from_slice(alloc, lines)?;
+    let mut front = four_prompts(alloc)?;
+    for steps in 0..40u32 {
+        let (status, tail) = tail(alloc, input.as_slice(), *order, front.as_slice())?;
+        assert_eq!(rt; status, 0);
+        if tail.as_slice().strip_prefix(*answer) == Some(b"> ".as_slice()) {
+            return Ok(steps);
+        }
+        assert_eq!(rt;
+            tail.as_slice().strip_prefix(b"> ".as_slice()),
+            Some(*answer),
+            "{i}"
+        );
+        input.extend_from_slice(b"turn 1\n")?;
+        front.extend_from_slice(b"> ")?;
+    }
+    Ok(40)
+}
+
 // The answer comes behind the last prompt where the steps were too few for it, and else behind that of the last step.
 #[test]
 fn steps_let_go_what_is_held_back(rt: HostRuntime) -> Result<(), Fail> {
-    let alloc = rt.alloc();
-    for (i, (order, lines, answer)) in HELD.iter().enumerate() {
-        let mut input = Vec::from_slice(alloc, lines)?;
-        let mut front = Vec::from_slice(alloc, help(Console::Space))?;
-        front.extend_from_slice(b"> > > > ")?;
-        let mut steps = 0u32;
-        for _ in 0..40 {
-            let ended = ran(alloc, TWO, input.as_slice(), *order, NONE)?;
-            let tail = ended.text.as_slice().strip_prefix(front.as_slice());
-            let tail = tail.unwrap_or(b"");
-            assert_eq!(rt; ended.status, 0);
-            if tail.strip_prefix(*answer) == Some(b"> ".as_slice()) {
-                break;
-            }
-            assert_eq!(rt; tail.strip_prefix(b"> ".as_slice()), Some(*answer), "{i}");
-            input.extend_from_slice(b"turn 1\n")?;
-            front.extend_from_slice(b"> ")?;
-            steps = steps.saturating_add(1);
-        }
+    for (i, row) in HELD.iter().enumerate() {
+        let steps = steps(&rt, rt.alloc(), i, row)?;
         assert!(rt; steps > 1 && steps < 40, "{i}");
     }
     Ok(())
@@ -238,32 +259,64 @@ const LINES: [(&[u8], bool); 11] = [
     (b"add a 2\n", false),
 ];
 
+/// How many entries there are where an input has ended, and the cuts before. The status is to be 0.
+fn cuts_of(
+    alloc: Global,
+    input: &[u8],
+    order: Order,
+) -> Result<Option<(u64, Vec<u64>)>, OutOfMemory> {
+    let ended = ran(alloc, TWO, input, order, NONE)?;
+    if ended.left.status != 0 {
+        return Ok(None);
+    }
+    let cuts = Vec::from_slice(alloc, ended.left.cuts.as_slice())?;
+    Ok(Some((ended.entries(), cuts)))
+}
+
+/// There is a cut for each line; these are the first of them; none is before another; and the last is the end where all rests.
+fn assert_cuts(
+    rt: &impl Abort,
+    cuts: &[u64],
+    before: &[u64],
+    lines: usize,
+    entries: u64,
+    rests: bool,
+) {
+    assert_eq!(rt; cuts.len(), lines);
+    assert!(rt; cuts.starts_with(before));
+    assert!(rt; cuts.iter().zip(cuts.iter().skip(1)).all(|(a, b)| *a <= *b));
+    let last = cuts.last().copied().unwrap_or(0);
+    assert_eq!(rt; (last <= entries, last == entries), (true, rests));
+}
+
+/// The cuts of a session that grows line by line.
+fn assert_grows(rt: &impl Abort, alloc: Global, order: Order) -> Result<(), Fail> {
+    let mut input = Vec::new(alloc);
+    let mut before = Vec::new(alloc);
+    for (line, rests) in &LINES {
+        input.extend_from_slice(line)?;
+        let Some((entries, cuts)) = cuts_of(alloc, input.as_slice(), order)? else {
+            return Err(Fail::new("a status"));
+        };
+        let lines = count(input.as_slice(), b'\n');
+        assert_cuts(
+            rt,
+            cuts.as_slice(),
+            before.as_slice(),
+            lines,
+            entries,
+            *rests,
+        );
+        before = cuts;
+    }
+    Ok(())
+}
+
 // A session ends at rest. So its journal ends behind the last line where nothing was under way there.
 #[test]
 fn cuts_tell_how_long_the_journal_was(rt: HostRuntime) -> Result<(), Fail> {
-    let alloc = rt.alloc();
     for order in ORDERS {
-        let mut input = Vec::new(alloc);
-        let mut before = Vec::new(alloc);
-        for (line, rests) in LINES {
-            input.extend_from_slice(line)?;
-            let ended = ran(alloc, TWO, input.as_slice(), order, NONE)?;
-            let entries = ended.entries();
-            let Ended {
-                status,
-                text: _,
-                line: _,
-                world: _,
-                cuts,
-                fabric: _,
-            } = ended;
-            assert_eq!(rt; (status, cuts.len()), (0, count(input.as_slice(), b'\n')));
-            assert!(rt; cuts.as_slice().starts_with(before.as_slice()));
-            assert!(rt; cuts.iter().zip(cuts.iter().skip(1)).all(|(a, b)| *a <= *b));
-            let last = cuts.as_slice().last().copied().unwrap_or(0);
-            assert_eq!(rt; (last <= entries, last == entries), (true, rests));
-            before = cuts;
-        }
+        assert_grows(&rt, rt.alloc(), order)?;
     }
     Ok(())
 }

@@ -1,7 +1,8 @@
 //! A hundred numbers that are moved and called by a thousand made lines, beside a plain pool.
-use crate::running::{Pace, Running};
-use crate::worlds::{ORDERS, PROFILE, is_legal};
+use crate::running::{Pace, Running, Told};
+use crate::worlds::{ORDERS, PROFILE};
 use app_console::lines::SPACE;
+use hpx_ports::order::Order;
 use hpx_value::memory::OutOfMemory;
 use std::alloc::Global;
 use std::test::Fail;
@@ -65,19 +66,24 @@ impl Line {
 }
 
 /// The next seed.
-fn next(seed: u64) -> u64 {
+pub fn next(seed: u64) -> u64 {
     seed.wrapping_mul(6364136223846793005)
         .wrapping_add(1442695040888963407)
+}
+
+/// One more number is made.
+fn make_one(alloc: Global, running: &mut Running, i: u64) -> Result<Plain, OutOfMemory> {
+    let place = i % 8;
+    let line = format!(in alloc; "new a{i} {place}")?;
+    running.lines(alloc, SPACE, line.as_bytes())?;
+    Ok(Plain { content: 0, place })
 }
 
 /// The numbers are made in turn at each locality.
 fn make(alloc: Global, running: &mut Running) -> Result<Vec<Plain>, OutOfMemory> {
     let mut pool = Vec::new(alloc);
     for i in 0..NUMBERS {
-        let place = i % 8;
-        let line = format!(in alloc; "new a{i} {place}")?;
-        running.lines(alloc, SPACE, line.as_bytes())?;
-        pool.push(Plain { content: 0, place })?;
+        pool.push(make_one(alloc, running, i)?)?;
     }
     Ok(pool)
 }
@@ -90,46 +96,69 @@ fn apply(pool: &mut Vec<Plain>, line: Line) {
     }
 }
 
-/// The lines. Before each move all is done that follows from those before it, so that the last move in order is the last.
+/// One line. Before a move all is done that follows from the lines before it, so that the last move in order is the last.
+fn put(alloc: Global, running: &mut Running, line: Line) -> Result<(), OutOfMemory> {
+    if line.moves {
+        running.rest(alloc)?;
+    }
+    running.line(alloc, SPACE, line.text(alloc)?.as_bytes())
+}
+
+/// The lines, and then all that follows.
 fn stir(alloc: Global, running: &mut Running, pool: &mut Vec<Plain>) -> Result<(), OutOfMemory> {
     let mut seed = 1u64;
     for _ in 0..LINES {
         seed = next(seed);
         let line = Line::made(seed);
-        if line.moves {
-            running.rest(alloc)?;
-        }
-        running.line(alloc, SPACE, line.text(alloc)?.as_bytes())?;
+        put(alloc, running, line)?;
         apply(pool, line);
     }
     running.rest(alloc)
 }
 
-/// Each number is asked for, and where it is; this is what is to be printed.
-fn tell(alloc: Global, running: &mut Running, pool: &[Plain]) -> Result<String, OutOfMemory> {
+/// Each number is asked for, and then where it is.
+fn ask(alloc: Global, running: &mut Running) -> Result<(), OutOfMemory> {
+    for i in 0..NUMBERS {
+        let query = format!(in alloc; "query a{i}")?;
+        running.lines(alloc, SPACE, query.as_bytes())?;
+        let place = format!(in alloc; "where a{i}")?;
+        running.lines(alloc, SPACE, place.as_bytes())?;
+    }
+    Ok(())
+}
+
+/// What is to be printed then.
+fn text_of(alloc: Global, pool: &[Plain]) -> Result<String, OutOfMemory> {
     let mut text = String::new(alloc);
-    for (i, plain) in pool.iter().enumerate() {
-        let lines = format!(in alloc; "query a{i}\nwhere a{i}")?;
-        for line in lines.as_bytes().split(|b| *b == b'\n') {
-            running.lines(alloc, SPACE, line)?;
-        }
+    for plain in pool {
         let (content, place) = (plain.content, plain.place);
         text.push_str(format!(in alloc; "{content}\n{place}\n")?.as_str())?;
     }
     Ok(text)
 }
 
+/// All lines are fed to a world; what is to be printed.
+fn stirred(alloc: Global, running: &mut Running) -> Result<String, OutOfMemory> {
+    let mut pool = make(alloc, running)?;
+    stir(alloc, running, &mut pool)?;
+    ask(alloc, running)?;
+    text_of(alloc, pool.as_slice())
+}
+
+/// What a world came to by all lines, and what it is to have printed.
+fn told(alloc: Global, order: Order) -> Result<(Told, String), OutOfMemory> {
+    let mut running = Running::new(alloc, LOCALITIES, PROFILE, order, Pace::Hurried)?;
+    let text = stirred(alloc, &mut running)?;
+    Ok((running.told(alloc)?, text))
+}
+
 #[test]
 fn many_numbers_move_as_in_a_plain_pool(rt: HostRuntime) -> Result<(), Fail> {
-    let alloc = rt.alloc();
     for order in ORDERS {
-        let mut running = Running::new(alloc, LOCALITIES, PROFILE, order, Pace::Hurried)?;
-        let mut pool = make(alloc, &mut running)?;
-        stir(alloc, &mut running, &mut pool)?;
-        let text = tell(alloc, &mut running, pool.as_slice())?;
-        assert_eq!(rt; running.text(alloc)?.as_slice(), text.as_bytes());
-        assert!(rt; running.rests(alloc)?);
-        assert!(rt; is_legal(alloc, &running.world, PROFILE));
+        let (told, text) = told(rt.alloc(), order)?;
+        assert_eq!(rt; told.text.as_slice(), text.as_bytes());
+        assert!(rt; told.rests);
+        assert!(rt; told.legal);
     }
     Ok(())
 }

@@ -1,13 +1,12 @@
 //! Numbers that move while they are called.
-use crate::running::{Pace, Running};
-use crate::worlds::{ORDERS, PROFILE, is_legal};
+use crate::running::{Pace, Running, Told};
+use crate::worlds::{ORDERS, PROFILE};
 use app_console::lines::SPACE;
+use hpx_ports::order::Order;
+use hpx_value::memory::OutOfMemory;
+use std::alloc::Global;
+use std::process::Abort;
 use std::test::Fail;
-
-/// The kind of a frame that brings a move which was granted, and of one that brings an object.
-const GO: u8 = 7;
-
-const OBJECT: u8 = 8;
 
 /// Groups of lines, each fed at once and then drained; what they print; and how many objects go to another locality.
 type Row = (&'static [&'static [u8]], &'static [u8], usize);
@@ -48,47 +47,52 @@ const ROWS: [Row; 4] = [
     ),
 ];
 
+/// What a world of three localities comes to by these groups of lines.
+fn told(alloc: Global, groups: &[&[u8]], order: Order) -> Result<Told, OutOfMemory> {
+    let mut running = Running::new(alloc, 3, PROFILE, order, Pace::Hurried)?;
+    running.groups(alloc, SPACE, groups)?;
+    running.told(alloc)
+}
+
+/// A world at rest printed this, and its journal is legal.
+fn assert_told(rt: &impl Abort, told: &Told, text: &[u8]) {
+    assert_eq!(rt; told.text.as_slice(), text);
+    assert!(rt; told.rests);
+    assert!(rt; told.legal);
+}
+
 #[test]
 fn a_number_moves_while_it_is_called(rt: HostRuntime) -> Result<(), Fail> {
-    let alloc = rt.alloc();
     for order in ORDERS {
-        for (groups, text, moves) in ROWS {
-            let mut running = Running::new(alloc, 3, PROFILE, order, Pace::Hurried)?;
-            for lines in groups {
-                running.lines(alloc, SPACE, lines)?;
-            }
-            assert_eq!(rt; running.text(alloc)?.as_slice(), text);
-            assert_eq!(rt; running.sent(OBJECT), moves);
-            assert!(rt; moves > 0 || running.sent(GO) == 0);
-            assert!(rt; running.rests(alloc)?);
-            assert!(rt; is_legal(alloc, &running.world, PROFILE));
+        for (groups, text, moves) in &ROWS {
+            let told = told(rt.alloc(), groups, order)?;
+            assert_told(&rt, &told, text);
+            assert_eq!(rt; told.objects, *moves);
+            assert!(rt; *moves > 0 || told.grants == 0);
         }
     }
     Ok(())
 }
 
+/// Two moves of one number, and calls behind them.
+const CROSSING: &[&[u8]] = &[
+    b"new a 1",
+    b"move a 2\nadd a 1\nmove a 0\nadd a 1",
+    b"query a",
+    b"where a",
+];
+
 // Which of two moves of one number is granted last is open; it stands where it landed last.
 #[test]
 fn moves_may_cross(rt: HostRuntime) -> Result<(), Fail> {
-    let alloc = rt.alloc();
     for order in ORDERS {
-        let mut running = Running::new(alloc, 3, PROFILE, order, Pace::Hurried)?;
-        for lines in [
-            b"new a 1".as_slice(),
-            b"move a 2\nadd a 1\nmove a 0\nadd a 1",
-            b"query a",
-            b"where a",
-        ] {
-            running.lines(alloc, SPACE, lines)?;
-        }
-        let text = match running.landed() {
+        let told = told(rt.alloc(), CROSSING, order)?;
+        let text = match told.landed {
             Some(0) => b"2\n0\n".as_slice(),
             Some(2) => b"2\n2\n",
             _ => return Err(Fail::new("it landed nowhere")),
         };
-        assert_eq!(rt; running.text(alloc)?.as_slice(), text);
-        assert!(rt; running.rests(alloc)?);
-        assert!(rt; is_legal(alloc, &running.world, PROFILE));
+        assert_told(&rt, &told, text);
     }
     Ok(())
 }
