@@ -1,6 +1,6 @@
 //! The greatest line, frame and hand.
 use crate::fabrics::Strangers;
-use crate::story::{Ask, Got, Story};
+use crate::story::{Ask, Got, Row, Story, assert_rows};
 use hpx_ports::memory_fabric::SureFabric;
 use hpx_ports::order::Order;
 use hpx_value::items::{Bytes, Items};
@@ -8,6 +8,7 @@ use hpx_value::memory::OutOfMemory;
 use hpx_world::turns::{Choice, Turned};
 use std::alloc::Global;
 use std::collections::VecDeque;
+use std::process::Abort;
 use std::test::Fail;
 
 /// A number in its last bytes, so many of eight, the greatest first.
@@ -63,53 +64,62 @@ fn brought(alloc: Global, frame: Bytes) -> Result<Story<Strangers>, OutOfMemory>
     Story::boot(alloc, 2, false, Strangers { brings })
 }
 
+/// The lengths of the texts in a frame, how many bytes it has, what comes of it, and how many entries.
+type Long = (&'static [u64], usize, Got, u64);
+
 // An action has at most 65,000 bytes and a text 16,384, so the longest frame of an action has 65,002. Of 65,536 bytes a frame is looked
 // at, of more it is not.
+const LONG: [Long; 4] = [
+    (&[16384, 16384, 16384, 15805], 65_002, Got::Moved, 1),
+    (
+        &[16384, 16384, 16384, 15806],
+        65_003,
+        Got::BadFrame(1, 2),
+        0,
+    ),
+    (
+        &[16384, 16384, 16384, 16336, 0],
+        65_536,
+        Got::BadFrame(1, 2),
+        0,
+    ),
+    (
+        &[16384, 16384, 16384, 16337, 0],
+        65_537,
+        Got::BadFrame(1, 65_536),
+        0,
+    ),
+];
+
+/// What comes of a frame is what its row says, and an action is run.
+fn assert_taken(
+    rt: &impl Abort,
+    alloc: Global,
+    story: &mut Story<Strangers>,
+    row: &Long,
+) -> Result<(), Fail> {
+    let (_, bytes, want, entries) = row;
+    assert_eq!(rt; story.ask(alloc, Ask::Take)?, *want, "{bytes} bytes");
+    assert_eq!(rt; story.entries(), *entries);
+    let weight = story.world.journal().weight();
+    assert_eq!(rt; weight, entries.saturating_mul(64 + 65_002));
+    if *entries == 1 {
+        let rows = [
+            (Ask::Fire(1), Got::Fired(1), 2, false),
+            (Ask::Finish, Got::Committed, 3, false),
+        ];
+        assert_rows(rt, alloc, story, &rows)?;
+    }
+    Ok(())
+}
+
 #[test]
 fn the_longest_frame_is_accepted(rt: HostRuntime) -> Result<(), Fail> {
-    let alloc = rt.alloc();
-    for (lengths, bytes, want, entries) in [
-        (
-            &[16384u64, 16384, 16384, 15805] as &[u64],
-            65_002,
-            Got::Moved,
-            1,
-        ),
-        (
-            &[16384, 16384, 16384, 15806],
-            65_003,
-            Got::BadFrame(1, 2),
-            0,
-        ),
-        (
-            &[16384, 16384, 16384, 16336, 0],
-            65_536,
-            Got::BadFrame(1, 2),
-            0,
-        ),
-        (
-            &[16384, 16384, 16384, 16337, 0],
-            65_537,
-            Got::BadFrame(1, 65_536),
-            0,
-        ),
-    ] {
-        let frame = texts(alloc, lengths)?;
-        assert_eq!(rt; frame.len(), bytes);
-        let mut story = brought(alloc, frame)?;
-        assert_eq!(rt; story.ask(alloc, Ask::Take)?, want, "{bytes} bytes");
-        assert_eq!(rt; story.entries(), entries);
-        assert_eq!(rt;
-            story.world.journal().weight(),
-            entries.saturating_mul(64 + 65_002)
-        );
-        if entries == 1 {
-            let rows = [
-                (Ask::Fire(1), Got::Fired(1), 2, false),
-                (Ask::Finish, Got::Committed, 3, false),
-            ];
-            assert_eq!(rt; story.first_wrong(alloc, &rows)?, None);
-        }
+    for row in &LONG {
+        let frame = texts(rt.alloc(), row.0)?;
+        assert_eq!(rt; frame.len(), row.1);
+        let mut story = brought(rt.alloc(), frame)?;
+        assert_taken(&rt, rt.alloc(), &mut story, row)?;
     }
     Ok(())
 }
@@ -126,40 +136,53 @@ fn ids(alloc: Global, count: u64) -> Result<Bytes, OutOfMemory> {
     Ok(Items::from_vec(out))
 }
 
+/// These rows are so of a frame with so many ids.
+fn assert_ids(rt: &impl Abort, alloc: Global, count: u64, rows: &[Row]) -> Result<(), Fail> {
+    let mut story = brought(alloc, ids(alloc, count)?)?;
+    assert_rows(rt, alloc, &mut story, rows)
+}
+
+const MOST_IDS: [Row; 4] = [
+    (Ask::Take, Got::Moved, 1, false),
+    (Ask::Fire(1), Got::Fired(1), 2, false),
+    (Ask::Finish, Got::Committed, 3 + 32, false),
+    (Ask::Drain, Got::EarlyEnd(32, 1), 3 + 64, false),
+];
+
+const ONE_MORE: [Row; 1] = [(Ask::Take, Got::BadFrame(1, 32 + 17 * 32), 0, false)];
+
 // An action has at most 32 ids. Nobody names them behind it, so all are given up, and each goes home in a frame.
 #[test]
 fn the_most_ids_come_and_go_home(rt: HostRuntime) -> Result<(), Fail> {
-    let alloc = rt.alloc();
-    let mut story = brought(alloc, ids(alloc, 32)?)?;
-    let rows = [
-        (Ask::Take, Got::Moved, 1, false),
-        (Ask::Fire(1), Got::Fired(1), 2, false),
-        (Ask::Finish, Got::Committed, 3 + 32, false),
-        (Ask::Drain, Got::EarlyEnd(32, 1), 3 + 64, false),
-    ];
-    assert_eq!(rt; story.first_wrong(alloc, &rows)?, None);
-    let mut story = brought(alloc, ids(alloc, 33)?)?;
-    let rows = [(Ask::Take, Got::BadFrame(1, 32 + 17 * 32), 0, false)];
-    assert_eq!(rt; story.first_wrong(alloc, &rows)?, None);
+    assert_ids(&rt, rt.alloc(), 32, &MOST_IDS)?;
+    assert_ids(&rt, rt.alloc(), 33, &ONE_MORE)
+}
+
+/// Whether a line of so many bytes is fed.
+fn feed(alloc: Global, story: &mut Story<SureFabric>, bytes: usize) -> Result<bool, OutOfMemory> {
+    let line = vec![in alloc; b'x'; bytes]?;
+    if line.len() > 1025 {
+        return Err(OutOfMemory);
+    }
+    let choice = Choice::Feed(Items::from_vec(line));
+    let fed = story.world.turn(alloc, choice, &mut story.fabric);
+    Ok(matches!(fed, Ok(Turned::Fed)))
+}
+
+/// The longest line is fed, and done.
+fn assert_fed(rt: &impl Abort, alloc: Global, story: &mut Story<SureFabric>) -> Result<(), Fail> {
+    assert!(rt; feed(alloc, story, 1025)?);
+    assert_eq!(rt; story.world.journal().weight(), 64 + 1025);
+    assert_eq!(rt; story.ask(alloc, Ask::Drain)?, Got::Drained);
+    assert_eq!(rt; story.entries(), 3);
+    assert!(rt; story.is_legal(alloc));
     Ok(())
 }
 
 // A line of 1,024 bytes, behind its mark.
 #[test]
 fn the_longest_line_is_fed(rt: HostRuntime) -> Result<(), Fail> {
-    let alloc = rt.alloc();
-    let mut story = Story::boot(alloc, 1, false, SureFabric::new(alloc, Order::FirstIn))?;
-    let line = vec![in alloc; b'x'; 1025]?;
-    assert_eq!(rt; line.len(), 1025);
-    let fed = story.world.turn(
-        alloc,
-        Choice::Feed(Items::from_vec(line)),
-        &mut story.fabric,
-    );
-    assert!(rt; matches!(fed, Ok(Turned::Fed)));
-    assert_eq!(rt; story.world.journal().weight(), 64 + 1025);
-    assert_eq!(rt; story.ask(alloc, Ask::Drain)?, Got::Drained);
-    assert_eq!(rt; story.entries(), 3);
-    assert!(rt; story.is_legal(alloc));
-    Ok(())
+    let fabric = SureFabric::new(rt.alloc(), Order::FirstIn);
+    let mut story = Story::boot(rt.alloc(), 1, false, fabric)?;
+    assert_fed(&rt, rt.alloc(), &mut story)
 }

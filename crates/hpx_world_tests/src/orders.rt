@@ -3,6 +3,7 @@ use crate::story::{Ask, Got, Story};
 use hpx_journal::entry::Event;
 use hpx_ports::memory_fabric::SureFabric;
 use hpx_ports::order::Order;
+use hpx_value::memory::OutOfMemory;
 use std::alloc::Global;
 use std::process::Abort;
 use std::test::Fail;
@@ -49,36 +50,102 @@ fn line(
     Ok(story.entries().saturating_sub(before))
 }
 
+/// The lines of a session, and what was printed last behind each.
+const SESSION: [(u8, &[u8]); 7] = [
+    (b'n', b""),
+    (b'q', b"0\n"),
+    (b'a', b"0\n"),
+    (b'a', b"0\n"),
+    (b'a', b"0\n"),
+    (b'q', b"15\n"),
+    (b'd', b"15\n"),
+];
+
+/// Each line of the session does all that follows.
+fn assert_session(
+    rt: &impl Abort,
+    alloc: Global,
+    story: &mut Story<SureFabric>,
+    localities: u32,
+) -> Result<(), Fail> {
+    assert_eq!(rt; story.ask(alloc, Ask::Drain)?, Got::Drained);
+    assert_eq!(rt; story.entries(), 0);
+    for (byte, text) in &SESSION {
+        let entries = line(rt, alloc, story, *byte)?;
+        let want = entries_of(localities, *byte);
+        assert_eq!(rt; entries, want, "{localities} localities, byte {byte}");
+        assert!(rt; *byte == b'n' || has_printed(story, text));
+    }
+    Ok(())
+}
+
+/// No object is left, the journal is legal, and nothing is in flight.
+fn assert_rests(rt: &impl Abort, alloc: Global, story: &Story<SureFabric>) -> Result<(), Fail> {
+    assert!(rt; story.world.audit(alloc)?.is_empty());
+    assert!(rt; story.is_legal(alloc));
+    assert_eq!(rt; story.fabric.in_flight(), 0);
+    Ok(())
+}
+
+/// A world over a fabric of an order.
+fn world(alloc: Global, localities: u32, order: Order) -> Result<Story<SureFabric>, OutOfMemory> {
+    let fabric = SureFabric::new(alloc, order);
+    Story::boot(alloc, localities, false, fabric)
+}
+
 #[test]
 fn a_drain_does_all_that_follows(rt: HostRuntime) -> Result<(), Fail> {
-    let alloc = rt.alloc();
     for order in ORDERS {
         for localities in [1u32, 2, 3] {
-            let fabric = SureFabric::new(alloc, order);
-            let mut story = Story::boot(alloc, localities, false, fabric)?;
-            assert_eq!(rt; story.ask(alloc, Ask::Drain)?, Got::Drained);
-            assert_eq!(rt; story.entries(), 0);
-            for (byte, text) in [
-                (b'n', b"".as_slice()),
-                (b'q', b"0\n"),
-                (b'a', b"0\n"),
-                (b'a', b"0\n"),
-                (b'a', b"0\n"),
-                (b'q', b"15\n"),
-                (b'd', b"15\n"),
-            ] {
-                assert_eq!(rt;
-                    line(&rt, alloc, &mut story, byte)?,
-                    entries_of(localities, byte),
-                    "{localities} localities, byte {byte}"
-                );
-                assert!(rt; byte == b'n' || has_printed(&story, text));
-            }
-            assert!(rt; story.world.audit(alloc)?.is_empty());
-            assert!(rt; story.is_legal(alloc));
-            assert_eq!(rt; story.fabric.in_flight(), 0);
+            let mut story = world(rt.alloc(), localities, order)?;
+            assert_session(&rt, rt.alloc(), &mut story, localities)?;
+            assert_rests(&rt, rt.alloc(), &story)?;
         }
     }
+    Ok(())
+}
+
+/// Five calls are made, and each is sent.
+fn call(alloc: Global, story: &mut Story<SureFabric>) -> Result<(), OutOfMemory> {
+    for byte in *b"aaaaa" {
+        for ask in [Ask::Feed(byte), Ask::Fire(0), Ask::Finish, Ask::Pump(0)] {
+            story.ask(alloc, ask)?;
+        }
+    }
+    Ok(())
+}
+
+/// Five calls come back, of whose answers so many are merged where that is known.
+fn assert_calls(
+    rt: &impl Abort,
+    alloc: Global,
+    story: &mut Story<SureFabric>,
+    merged: Option<u64>,
+) -> Result<(), Fail> {
+    call(alloc, story)?;
+    assert_eq!(rt; story.fabric.in_flight(), 5);
+    assert_eq!(rt; story.entries(), 14 + 5 * 6);
+    assert_eq!(rt; story.ask(alloc, Ask::Drain)?, Got::Drained);
+    if let Some(merged) = merged {
+        let home = 5u64.saturating_sub(merged);
+        let more = merged.saturating_add(home.saturating_mul(4));
+        assert_eq!(rt; story.entries(), more.saturating_add(14 + 5 * 14));
+    }
+    Ok(())
+}
+
+/// Five calls were made, and the journal is legal.
+fn assert_called(
+    rt: &impl Abort,
+    alloc: Global,
+    story: &mut Story<SureFabric>,
+    merged: Option<u64>,
+) -> Result<(), Fail> {
+    assert_eq!(rt; line(rt, alloc, story, b'n')?, 14);
+    assert_calls(rt, alloc, story, merged)?;
+    assert_eq!(rt; line(rt, alloc, story, b'q')?, 16);
+    assert!(rt; has_printed(story, b"25\n"));
+    assert!(rt; story.is_legal(alloc));
     Ok(())
 }
 
@@ -87,29 +154,13 @@ fn a_drain_does_all_that_follows(rt: HostRuntime) -> Result<(), Fail> {
 // the other way round all are.
 #[test]
 fn frames_may_come_in_any_order(rt: HostRuntime) -> Result<(), Fail> {
-    let alloc = rt.alloc();
     for (order, merged) in [
         (Order::FirstIn, Some(1)),
         (Order::LastIn, Some(5)),
         (Order::Scrambled(7), None),
     ] {
-        let fabric = SureFabric::new(alloc, order);
-        let mut story = Story::boot(alloc, 3, false, fabric)?;
-        assert_eq!(rt; line(&rt, alloc, &mut story, b'n')?, 14);
-        for byte in *b"aaaaa" {
-            for ask in [Ask::Feed(byte), Ask::Fire(0), Ask::Finish, Ask::Pump(0)] {
-                story.ask(alloc, ask)?;
-            }
-        }
-        assert_eq!(rt; story.fabric.in_flight(), 5);
-        assert_eq!(rt; story.entries(), 14 + 5 * 6);
-        assert_eq!(rt; story.ask(alloc, Ask::Drain)?, Got::Drained);
-        if let Some(merged) = merged {
-            assert_eq!(rt; story.entries(), 14 + 5 * 14 + merged + 4 * (5 - merged));
-        }
-        assert_eq!(rt; line(&rt, alloc, &mut story, b'q')?, 16);
-        assert!(rt; has_printed(&story, b"25\n"));
-        assert!(rt; story.is_legal(alloc));
+        let mut story = world(rt.alloc(), 3, order)?;
+        assert_called(&rt, rt.alloc(), &mut story, merged)?;
     }
     Ok(())
 }

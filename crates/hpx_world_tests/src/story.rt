@@ -14,6 +14,8 @@ use hpx_value::profile::Profile;
 use hpx_world::turns::{Choice, Turned, WorldFault};
 use hpx_world::world::World;
 use std::alloc::Global;
+use std::process::Abort;
+use std::test::Fail;
 
 /// A new object has a credit of 256, which is halved eight times.
 pub const PROFILE: Profile = Profile {
@@ -250,4 +252,27 @@ impl<F: Fabric + Drop> Story<F> {
         }
         Ok(None)
     }
+}
+
+/// Each row is so of a world.
+pub fn assert_rows<F: Fabric + Drop>(
+    rt: &impl Abort,
+    alloc: Global,
+    story: &mut Story<F>,
+    rows: &[Row],
+) -> Result<(), Fail> {
+    assert_eq!(rt; story.first_wrong(alloc, rows)?, None);
+    Ok(())
+}
+
+/// Each row is so of a world, and its journal is legal then.
+pub fn assert_story<F: Fabric + Drop>(
+    rt: &impl Abort,
+    alloc: Global,
+    story: &mut Story<F>,
+    rows: &[Row],
+) -> Result<(), Fail> {
+    assert_rows(rt, alloc, story, rows)?;
+    assert!(rt; story.is_legal(alloc));
+    Ok(())
 }
