@@ -8,6 +8,7 @@ use hpx_value::items::{Bytes, Lengths};
 use hpx_value::profile::Profile;
 use std::alloc::{AllocError, Global};
 use std::collections::VecDeque;
+use std::process::Abort;
 use std::sync::Wait;
 use std::test::Fail;
 
@@ -45,32 +46,43 @@ const ASK: &[u8] = &[
 const STRANGE: &[u8] = &[1, 2, 0, 0, 0, 2, 0x5e, 0, 0, 0x21, 0, 0, 0, 0, 0, 0, 0, 1];
 
 // Who sends, and what.
-type Body<'a> = (u32, &'a [u8]);
+type Body = (u32, &'static [u8]);
 
 // What comes; the status then, how many entries were written, how many frames were sent, and the words that were, one behind the other.
-#[derive(Clone, Copy)]
-struct Row<'a> {
-    coming: &'a [Body<'a>],
-    status: u8,
-    entries: u64,
-    frames: usize,
-    words: &'a [&'a [u8]],
-}
+type Row = (&'static [Body], u8, u64, usize, &'static [&'static [u8]]);
 
-fn row_of<'a>(
-    coming: &'a [Body<'a>],
+const ROWS: [Row; 8] = [
+    (&[(0, END)], 0, 0, 0, &[]),
+    (&[(0, END), (0, ASK)], 0, 0, 0, &[]),
+    (&[], 4, 0, 0, &[]),
+    (&[(0, WAVE_7), (0, END)], 0, 0, 0, &[NONE_7]),
+    (
+        &[(0, WAVE_8), (0, WAVE_7), (0, END)],
+        0,
+        0,
+        0,
+        &[NONE_8, NONE_7],
+    ),
+    (&[(0, ASK), (0, END)], 0, 5, 1, &[]),
+    (
+        &[(0, WAVE_7), (0, ASK), (0, WAVE_8), (0, END)],
+        0,
+        5,
+        1,
+        &[NONE_7, ONE_8],
+    ),
+    (&[(0, WAVE_7)], 4, 0, 0, &[NONE_7]),
+];
+
+// What a worker came to: its status, how many entries it wrote, how many frames it sent to the console, and the words, one behind the
+// other; and what it did not accept.
+#[derive(Drop)]
+struct Told {
     status: u8,
     entries: u64,
     frames: usize,
-    words: &'a [&'a [u8]],
-) -> Row<'a> {
-    Row {
-        coming,
-        status,
-        entries,
-        frames,
-        words,
-    }
+    words: Vec<u8>,
+    fault: Option<MemberFault>,
 }
 
 fn bytes(alloc: Global, text: &[u8]) -> Result<Bytes, AllocError> {
@@ -81,20 +93,25 @@ fn calls(alloc: Global, numbers: &[u64]) -> Result<Lengths, AllocError> {
     Ok(Lengths::from_vec(Vec::from_slice(alloc, numbers)?))
 }
 
-// Locality 1 of two runs over a link where this comes, and these sends and receives fail.
-fn ran<R: Wait>(
-    rt: &R,
-    alloc: Global,
-    coming: &[Body],
-    sends: &[u64],
-    receives: &[u64],
-) -> Result<MemberEnd<Still, MemLink>, AllocError> {
+// What is to come over a link.
+fn bodies(alloc: Global, coming: &[Body]) -> Result<VecDeque<(u32, Bytes)>, AllocError> {
     let mut bodies = VecDeque::new(alloc);
     for (from, body) in coming {
         bodies.push_back((*from, bytes(alloc, body)?))?;
     }
-    let link = MemLink::new(alloc, bodies, calls(alloc, sends)?, calls(alloc, receives)?);
-    Ok(worker(rt, alloc, Still, 1, PROFILE, link))
+    Ok(bodies)
+}
+
+// Locality 1 of two runs over a link where this comes, and these sends and receives fail. What `worker` says of it is not needed behind it.
+fn end_of<R: Wait>(
+    rt: &R,
+    alloc: Global,
+    bodies: VecDeque<(u32, Bytes)>,
+    sends: Lengths,
+    receives: Lengths,
+) -> MemberEnd<Still, MemLink> {
+    let link = MemLink::new(alloc, bodies, sends, receives);
+    worker(rt, alloc, Still, 1, PROFILE, link)
 }
 
 // How many frames were sent to the console, and the words, one behind the other.
@@ -112,90 +129,118 @@ fn said(alloc: Global, link: &MemLink) -> Result<(usize, Vec<u8>), AllocError> {
     Ok((frames, words))
 }
 
+// What an end tells.
+fn tells(alloc: Global, end: &MemberEnd<Still, MemLink>) -> Result<Told, AllocError> {
+    let (frames, words) = said(alloc, &end.link)?;
+    Ok(Told {
+        status: end.status,
+        entries: end.journal.entries(),
+        frames,
+        words,
+        fault: end.fault,
+    })
+}
+
+// What a worker comes to where this comes, and these sends and receives fail.
+fn ran<R: Wait>(
+    rt: &R,
+    alloc: Global,
+    coming: &[Body],
+    sends: &[u64],
+    receives: &[u64],
+) -> Result<Told, AllocError> {
+    let bodies = bodies(alloc, coming)?;
+    let sends = calls(alloc, sends)?;
+    let receives = calls(alloc, receives)?;
+    tells(alloc, &end_of(rt, alloc, bodies, sends, receives))
+}
+
+// A worker came to what its row says.
+fn assert_is(rt: &impl Abort, told: &Told, row: &Row, words: &[u8]) {
+    let (_, status, entries, frames, _) = row;
+    assert_eq!(rt; (told.status, told.entries), (*status, *entries));
+    assert_eq!(rt; told.frames, *frames);
+    assert_eq!(rt; told.words.as_slice(), words);
+    assert_eq!(rt; told.fault, None);
+}
+
 #[test]
 fn a_worker_answers_waves_until_the_end(rt: HostRuntime) -> Result<(), Fail> {
-    let alloc = rt.alloc();
-    for row in [
-        row_of(&[(0, END)], 0, 0, 0, &[]),
-        row_of(&[(0, END), (0, ASK)], 0, 0, 0, &[]),
-        row_of(&[], 4, 0, 0, &[]),
-        row_of(&[(0, WAVE_7), (0, END)], 0, 0, 0, &[NONE_7]),
-        row_of(
-            &[(0, WAVE_8), (0, WAVE_7), (0, END)],
-            0,
-            0,
-            0,
-            &[NONE_8, NONE_7],
-        ),
-        row_of(&[(0, ASK), (0, END)], 0, 5, 1, &[]),
-        row_of(
-            &[(0, WAVE_7), (0, ASK), (0, WAVE_8), (0, END)],
-            0,
-            5,
-            1,
-            &[NONE_7, ONE_8],
-        ),
-        row_of(&[(0, WAVE_7)], 4, 0, 0, &[NONE_7]),
-    ] {
-        let end = ran(&rt, alloc, row.coming, &[], &[])?;
-        assert_eq!(rt;
-            (end.status, end.journal.entries()),
-            (row.status, row.entries)
-        );
-        let (frames, words) = said(alloc, &end.link)?;
-        assert_eq!(rt; frames, row.frames);
-        assert_eq!(rt; words.as_slice(), row.words.concat(alloc)?.as_slice());
-        assert_eq!(rt; end.fault, None);
+    for row in &ROWS {
+        let told = ran(&rt, rt.alloc(), row.0, &[], &[])?;
+        let words = row.4.concat(rt.alloc())?;
+        assert_is(&rt, &told, row, words.as_slice());
     }
     Ok(())
 }
 
+const ASKED: &[Body] = &[(0, WAVE_7), (0, ASK), (0, WAVE_8), (0, END)];
+
+// The sends and the receives that fail, and how many entries were written.
+type Failing = (&'static [u64], &'static [u64], u64);
+
+const FAILING: [Failing; 6] = [
+    (&[], &[1], 0),
+    (&[1], &[], 0),
+    (&[], &[2], 0),
+    (&[2], &[], 4),
+    (&[3], &[], 5),
+    (&[], &[3], 5),
+];
+
 #[test]
 fn a_fault_of_the_link_is_status_4(rt: HostRuntime) -> Result<(), Fail> {
-    let alloc = rt.alloc();
-    let coming: &[Body] = &[(0, WAVE_7), (0, ASK), (0, WAVE_8), (0, END)];
-    let none: &[u64] = &[];
-    let first: &[u64] = &[1];
-    let second: &[u64] = &[2];
-    let third: &[u64] = &[3];
-    for (sends, receives, entries) in [
-        (none, first, 0),
-        (first, none, 0),
-        (none, second, 0),
-        (second, none, 4),
-        (third, none, 5),
-        (none, third, 5),
-    ] {
-        let end = ran(&rt, alloc, coming, sends, receives)?;
-        assert_eq!(rt; (end.status, end.journal.entries()), (4, entries));
+    for (sends, receives, entries) in &FAILING {
+        let told = ran(&rt, rt.alloc(), ASKED, sends, receives)?;
+        assert_eq!(rt; (told.status, told.entries), (4, *entries));
     }
     Ok(())
+}
+
+// Who sends what, and the status then.
+type Odd = (u32, &'static [u8], u8);
+
+const ODD: [Odd; 11] = [
+    (0, NOTHING, 7),
+    (0, &[1], 7),
+    (2, &[0xef], 7),
+    (0, &[0xf4, 0, 0, 0, 7], 7),
+    (0, STRANGE, 8),
+    (0, &[0xf0, 0, 0, 7], 8),
+    (0, &[0xf2, 0], 8),
+    (0, NONE_7, 8),
+    (0, &[0xf3, 0, 2, 0, 0], 8),
+    (2, END, 8),
+    (2, WAVE_7, 8),
+];
+
+// What a worker did not accept came from this locality, or from the console where the status is 8.
+fn assert_fault(rt: &impl Abort, fault: Option<MemberFault>, from: u32, status: u8) {
+    match fault {
+        Some(MemberFault::OutOfPlace { from: by }) => assert_eq!(rt; by, from),
+        Some(MemberFault::Strange { from: by, .. }) => assert_eq!(rt; (by, status), (0, 8)),
+        Some(MemberFault::BadFrame { from: by, .. }) => assert_eq!(rt; (by, status), (from, 7)),
+        None => assert!(rt; false),
+    }
+}
+
+// How a worker ends to which this comes, and then the end.
+fn ran_on<R: Wait>(
+    rt: &R,
+    alloc: Global,
+    from: u32,
+    body: &'static [u8],
+) -> Result<Told, AllocError> {
+    let coming = [(from, body), (0, END)];
+    ran(rt, alloc, &coming, &[], &[])
 }
 
 #[test]
 fn what_is_out_of_place_ends_a_worker(rt: HostRuntime) -> Result<(), Fail> {
-    let alloc = rt.alloc();
-    for (from, body, status) in [
-        (0, NOTHING, 7),
-        (0, &[1], 7),
-        (2, &[0xef], 7),
-        (0, &[0xf4, 0, 0, 0, 7], 7),
-        (0, STRANGE, 8),
-        (0, &[0xf0, 0, 0, 7], 8),
-        (0, &[0xf2, 0], 8),
-        (0, NONE_7, 8),
-        (0, &[0xf3, 0, 2, 0, 0], 8),
-        (2, END, 8),
-        (2, WAVE_7, 8),
-    ] {
-        let end = ran(&rt, alloc, &[(from, body), (0, END)], &[], &[])?;
-        assert_eq!(rt; (end.status, end.journal.entries()), (status, 0));
-        match end.fault {
-            Some(MemberFault::OutOfPlace { from: by }) => assert_eq!(rt; by, from),
-            Some(MemberFault::Strange { from: by, .. }) => assert_eq!(rt; (by, status), (0, 8)),
-            Some(MemberFault::BadFrame { from: by, .. }) => assert_eq!(rt; (by, status), (from, 7)),
-            None => assert!(rt; false),
-        }
+    for (from, body, status) in &ODD {
+        let told = ran_on(&rt, rt.alloc(), *from, body)?;
+        assert_eq!(rt; (told.status, told.entries), (*status, 0));
+        assert_fault(&rt, told.fault, *from, *status);
     }
     Ok(())
 }
