@@ -1,4 +1,4 @@
-//! Sessions of `space` made from numbers, over three orders: 300 beside a plain space, and 102 in which delivery is held back.
+//! Sessions of `space` made from numbers, over three orders: 300 beside a plain space, and 100 in which delivery is held back.
 use crate::ended::{Ended, NONE, ran};
 use crate::plain::{Arg, Does, Kind, Made, Plain};
 use crate::pool::next;
@@ -235,7 +235,7 @@ fn assert_legal(rt: &impl Abort, start: u64, ended: &Ended) {
 #[test]
 fn a_hundred_sessions_that_hold_are_legal(rt: HostRuntime) -> Result<(), Fail> {
     for order in ORDERS {
-        for start in 0..34u64 {
+        for start in 0..100u64 {
             let ended = held(&rt, rt.alloc(), start, order)?;
             assert_legal(&rt, start, &ended);
         }
