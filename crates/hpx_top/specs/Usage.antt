@@ -30,6 +30,7 @@ is_tuned p =
     nat_le 8 p.credit_log && nat_le p.credit_log 31 && nat_le (2 ^ p.credit_log) p.credit_limit && nat_le p.credit_limit (2 ^ 100)
     && nat_le 1 p.cache && nat_le p.cache 4096
 
+-- from 1 to 64 threads
 abbrev pub are_threads : ℕ → Bool
 are_threads n = nat_le 1 n && nat_le n 64
 
@@ -50,6 +51,7 @@ is_ring points parts steps =
 abbrev pub is_load : ℕ → ℕ → Bool
 is_load start lines = nat_le start 2147483647 && nat_le lines 20000
 
+-- from 1 to 64 localities
 abbrev pub are_places : ℕ → Bool
 are_places n = nat_le 1 n && nat_le n 64
 
