@@ -1,4 +1,5 @@
-//! The edges of the program: its words, its greatest lines, its longest sessions, and readers and writers that fail.
+//! The edges of the program: its words, its greatest lines, its longest sessions, readers and writers that
+//! fail, and fabrics that bring what was never sent.
 #![tactic(auto)]
 
 #[cfg(test)]
@@ -7,6 +8,8 @@ mod breaks;
 mod lines;
 #[cfg(test)]
 mod long;
+#[cfg(test)]
+mod loose;
 #[cfg(test)]
 mod session;
 #[cfg(test)]

@@ -24,10 +24,10 @@ pub struct Ended {
     pub entries: u64,
 }
 
-/// The accumulator over two localities.
-fn accumulator(alloc: Global) -> Result<Texts, OutOfMemory> {
+/// Words.
+pub fn words(alloc: Global, given: &[&[u8]]) -> Result<Texts, OutOfMemory> {
     let mut words = Items::new(alloc);
-    for word in [b"accumulator".as_slice(), b"--hpx:localities=2"] {
+    for word in given {
         words.push(Text::from_vec(Vec::from_slice(alloc, word)?))?;
     }
     Ok(words)
@@ -64,7 +64,7 @@ pub fn session<S: Source, K: Sink, R: Threads + Wait + Sync>(
     sink: &mut K,
     order: Order,
 ) -> Result<Ended, OutOfMemory> {
-    let words = accumulator(alloc)?;
+    let words = words(alloc, &[b"accumulator", b"--hpx:localities=2"])?;
     let mut line = SureSink::new(alloc);
     let (status, entries) = run_over(rt, alloc, &words, source, sink, &mut line, order);
     Ok(Ended {

@@ -1,5 +1,5 @@
 //! The waves of one round: each member tells once in a wave how many frames it has sent and accepted.
-ghost use Rattle.std.specs.Prelude.{◌≡◌, ◌≤◌, ◌<◌, ◌+◌, length, IfOk, IfErr, IsErr, ◌↔◌, IsTrue, false};
+ghost use Rattle.std.specs.Prelude.{◌≡◌, ◌≤◌, ◌<◌, ◌+◌, length, IfOk, IfErr, IsErr, OnOk, ◌↔◌, IsTrue, false};
 ghost use Rattle.std.specs.List.{sum_by, list_any, slice_get};
 ghost use Rattle.hpx_ended.specs.Tally.{Tally, fresh, MayCount, is_missing, sent_of, taken_of, waits, current, opened, counted, verdict_of};
 
@@ -68,6 +68,15 @@ impl Waves {
         })
     }
 
+    /// Begins the round anew: no wave was begun.
+    pub fn restart(&mut self)
+        ensures { self.new ≡ fresh (length self.old.answers) }
+    {
+        self.begun = 0;
+        self.earlier = None;
+        self.answers.fill(Some(Counted { sent: 0, taken: 0 }));
+    }
+
     /// How many waves were begun.
     pub fn begun(&self) -> u32
         ensures { result ≡ self.now.begun }
@@ -97,6 +106,7 @@ impl Waves {
     /// Takes the numbers that another member tells in a wave. They are out of place where that wave does not wait for them.
     pub fn counts(&mut self, node: u32, wave: u32, sent: u64, taken: u64) -> Result<(), OutOfPlace>
         ensures refused { IsErr result ↔ ¬ MayCount self.old node wave }
+        ensures right { OnOk result (MayCount self.old node wave) }
         ensures told { IfErr result (λ e. (e.current ≡ current self.old) × (e.node ≡ node) × (self.new ≡ self.old)) }
         ensures counted { IfOk result (λ _. self.new ≡ counted node (record { sent = sent; taken = taken }) self.old) }
     {

@@ -1,9 +1,9 @@
 -- So many steps, and what the journal has of them.
-use Rattle.std.specs.Prelude.{ℕ, Bool, true, false, List, ◌++◌, ◌≡◌, ◌≤◌, ◌<◌, ◌⊎◌, length}
+use Rattle.std.specs.Prelude.{ℕ, Bool, true, false, List, [], ◌++◌, ◌≡◌, ◌≤◌, ◌<◌, ◌⊎◌, length}
 use Rattle.hpx_value.specs.declared.acts.Acts.{Ghosts}
 use Rattle.hpx_journal.specs.Entries.{Rules}
 use Rattle.hpx_journal.specs.Laws.{count_events}
-use Rattle.hpx_journal.specs.Whole.{replayed}
+use Rattle.hpx_journal.specs.Whole.{IsCarried, replayed}
 use Rattle.hpx_part.specs.Data.{Event, Entry, Fire, Mail, Left, Out, In}
 use Rattle.hpx_world.specs.declared.turns.WorldFault.{WorldFault}
 use Rattle.hpx_world.specs.Quiet.{IsAtRest}
@@ -24,13 +24,14 @@ begins_step (Out to bytes) = true
 begins_step (In bytes) = true
 begins_step _ = false
 
--- the journal grew by so many steps, no more than `most`; where they are fewer, it is at rest
+-- the journal grew by so many steps, no more than `most`; where they are fewer, and each frame that was accepted had been sent, it is at
+-- rest
 pub record MakesTurns (r : Rules) (most made : ℕ) (old new : List Entry) : Type 0 where
   pub more : List Entry
   pub is : new ≡ old ++ more
   pub count : count_events begins_step more ≡ made
   pub few : made ≤ most
-  pub rest : (made ≡ most) ⊎ IsAtRest r (replayed r new)
+  pub rest : (made ≡ most) ⊎ (IsCarried r [] new → IsAtRest r (replayed r new))
 
 -- ---- steps, one after another
 

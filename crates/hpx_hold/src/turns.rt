@@ -1,5 +1,6 @@
 //! So many steps, and no more.
-ghost use Rattle.std.specs.Prelude.{◌≡◌, ◌<◌, length, IfOk, IfErr};
+ghost use Rattle.std.specs.Prelude.{◌≡◌, ◌<◌, [], length, IfOk, IfErr};
+ghost use Rattle.hpx_journal.specs.Whole.{IsCarried};
 ghost use Rattle.hpx_world.specs.Places.{rules_in};
 ghost use Rattle.hpx_world.specs.Away.{IsCarrying};
 ghost use Rattle.hpx_world.specs.Quiet.{IsQuiet, NoneRuns};
@@ -28,11 +29,9 @@ pub fn turns<A: Acts + Copy, F: Fabric>(
     ensures profile { world.new.profile ≡ world.old.profile }
     ensures goes { IfOk result (λ made. GoesIn A.act_of made (stage world.old (F.flight fabric.old) (F.trace fabric.old)) (λ last.
         EndsTurns most made last (stage world.new (F.flight fabric.new) (F.trace fabric.new)))) }
-    ensures turns { let r = rules_in A.act_of world.old in
-        IsCarrying r world.old.hand (F.flight fabric.old) (F.trace fabric.old) world.old.journal.entries → NoneRuns world.old.nodes
-        → IfOk result (λ made. MakesTurns r most made world.old.journal.entries world.new.journal.entries) }
-    ensures quiet { let r = rules_in A.act_of world.old in
-        IsCarrying r world.old.hand (F.flight fabric.old) (F.trace fabric.old) world.old.journal.entries → NoneRuns world.old.nodes
+    ensures turns { NoneRuns world.old.nodes
+        → IfOk result (λ made. MakesTurns (rules_in A.act_of world.old) most made world.old.journal.entries world.new.journal.entries) }
+    ensures quiet { IsCarried (rules_in A.act_of world.old) [] world.new.journal.entries → NoneRuns world.old.nodes
         → IfOk result (λ made. made < most → IsQuiet world.new.nodes world.new.hand) }
     ensures stops { IfErr result (λ fault. RefusedTurns A.act_of most fault (stage world.old (F.flight fabric.old) (F.trace fabric.old)) (stage world.new (F.flight fabric.new) (F.trace fabric.new))) }
     ensures faults { CountsFaults result (F.faults fabric.old) (F.faults fabric.new) }

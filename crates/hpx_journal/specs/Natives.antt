@@ -1,11 +1,9 @@
--- What comes over the road names only what there is: localities, roots, and objects that have credit. Where nothing moves,
--- each object stands at its home.
-use Rattle.std.specs.Prelude.{ℕ, Bool, true, false, List, [], ◌≡◌, ◌≢◌, ◌<◌, None}
+-- What comes over the road names only what there is: localities, roots, and objects that have credit.
+use Rattle.std.specs.Prelude.{ℕ, true, List, ◌≡◌, ◌<◌}
 use Rattle.std.specs.List.{list_any, AllByRecursion}
 use Rattle.hpx_value.specs.Laws.{IsRoot}
-use Rattle.hpx_value.specs.Shapes.{IsAct, IsState}
-use Rattle.hpx_journal.specs.Data.{Id, State, Act}
-use Rattle.hpx_journal.specs.Entries.{Event, Left, Entry, Rules, move_to}
+use Rattle.hpx_journal.specs.Data.{Id, Act}
+use Rattle.hpx_journal.specs.Entries.{Entry, Rules}
 use Rattle.hpx_journal.specs.Frames.{acts_in, travels_in}
 use Rattle.hpx_journal.specs.Local.{is_standing}
 use Rattle.hpx_journal.specs.Names.{due_ids}
@@ -51,22 +49,3 @@ pub record IsAlive (r : Rules) (es : List Entry) (o : Id) : Type 0 where
   pub born : IsBornIn o (replayed r es)
   pub alive : IsDeadIn o (replayed r es) → ⊥
   pub kept : freeds o es ≡ 0
-
--- ---- where nothing moves
-
--- no outcome sends a MOVE, of code 1
-pub record NothingMoves (r : Rules) : Type 0 where
-  pub codes : (kind here : ℕ) (s : State) (a : Act) → here < r.localities → IsState s → IsAct a
-      → AllByRecursion (λ x. x.code ≢ 1) (r.outcome_of kind here s a).sends
-
--- an object sets off
-abbrev pub is_left : Event → Bool
-is_left (Left o to) = true
-is_left _ = false
-
--- no action is a MOVE, and no object travels
-pub record IsStill (r : Rules) (w : Space) : Type 0 where
-  pub codes : EachAct r (λ act. act.code ≢ 1) w
-  pub moves : EachAct r (λ act. move_to act ≡ None) w
-  pub travels : (k : ℕ) → k < r.localities → (w.places k).travels ≡ []
-  pub road : AllByRecursion (λ f. travels_in (r.parcel_of f.1) ≡ []) w.road

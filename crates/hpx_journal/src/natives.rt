@@ -1,13 +1,13 @@
 //! What comes over the road names only what there is: the contracts are laws over legal journals.
-ghost use Rattle.std.specs.Prelude.{ℕ, List, ◌≡◌, ◌≢◌, ◌≤◌, ◌<◌};
+ghost use Rattle.std.specs.Prelude.{ℕ, List, ◌≤◌, ◌<◌};
 ghost use Rattle.std.specs.List.{sum_by};
 ghost use Rattle.hpx_value.specs.Ids.{Id};
-ghost use Rattle.hpx_journal.specs.Entries.{Entry, Frame, Rules, target_of};
+ghost use Rattle.hpx_journal.specs.Entries.{Entry, Frame, Rules};
 ghost use Rattle.hpx_journal.specs.Tokens.{worth};
 ghost use Rattle.hpx_journal.specs.Frames.{tokens_in};
 ghost use Rattle.hpx_journal.specs.Whole.{IsLegal, IsJoin, replayed, credit_sum, names_in};
-ghost use Rattle.hpx_journal.specs.Laws.{KeepsActLaws, HasGrammar, IsBornIn, IsOnRoad, count_events, freeds};
-ghost use Rattle.hpx_journal.specs.Natives.{EachAct, EachName, IsRootIfSmall, IsRootId, StandsAtHome, IsAlive, NothingMoves, IsStill, is_left};
+ghost use Rattle.hpx_journal.specs.Laws.{KeepsActLaws, HasGrammar, IsOnRoad};
+ghost use Rattle.hpx_journal.specs.Natives.{EachAct, EachName, IsRootIfSmall, IsRootId, StandsAtHome, IsAlive};
 
 /// What has credit is at home at a locality that there is, was born, and neither died nor was freed. What is named has
 /// credit, and so has what a frame on the road or a locality has tokens of.
@@ -37,21 +37,4 @@ pub fn natives_law()
         StandsAtHome r.localities (replayed r es) o }
     ensures near { (r : Rules) (es : List Entry) → HasGrammar r → KeepsActLaws r → 1 ≤ r.localities → IsJoin r es →
         EachName r (λ o. o.home < r.localities) (replayed r es) }
-{}
-
-/// Where no outcome sends a MOVE, no action is one and no object travels; so each object that was born and not freed stands
-/// at its home, and so does each that has credit, what each id names, and each target.
-pub fn still_law()
-    ensures still { (r : Rules) (es : List Entry) → HasGrammar r → KeepsActLaws r → NothingMoves r → IsLegal r es →
-        IsStill r (replayed r es) }
-    ensures no_left { (r : Rules) (es : List Entry) → HasGrammar r → KeepsActLaws r → NothingMoves r → IsLegal r es →
-        count_events is_left es ≡ 0 }
-    ensures lives { (r : Rules) (es : List Entry) (o : Id) → HasGrammar r → KeepsActLaws r → NothingMoves r → IsLegal r es →
-        IsBornIn o (replayed r es) → freeds o es ≡ 0 → StandsAtHome r.localities (replayed r es) o }
-    ensures counted { (r : Rules) (es : List Entry) (o : Id) → HasGrammar r → KeepsActLaws r → NothingMoves r → IsLegal r es →
-        1 ≤ credit_sum r o (replayed r es) → StandsAtHome r.localities (replayed r es) o }
-    ensures names { (r : Rules) (es : List Entry) → HasGrammar r → KeepsActLaws r → NothingMoves r → 1 ≤ r.localities →
-        IsJoin r es → EachName r (StandsAtHome r.localities (replayed r es)) (replayed r es) }
-    ensures targets { (r : Rules) (es : List Entry) → HasGrammar r → KeepsActLaws r → NothingMoves r → 1 ≤ r.localities →
-        IsJoin r es → EachAct r (λ act. StandsAtHome r.localities (replayed r es) (target_of act)) (replayed r es) }
 {}

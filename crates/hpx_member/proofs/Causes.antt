@@ -1,5 +1,5 @@
 -- Why a member stops, from why a call is refused.
-use Rattle.std.proofs.Common.{ℕ, List, ◌≡◌, refl, sym, subst, inl, inr}
+use Rattle.std.proofs.Common.{ℕ, List, ◌≡◌, false, refl, sym, subst, inl, inr}
 use Rattle.hpx_part.specs.Data.{Entry}
 use Rattle.hpx_tables.specs.Tables.{Tables}
 use Rattle.hpx_node.specs.Handled.{NotTaken, NotTended}
@@ -9,7 +9,9 @@ use Rattle.hpx_node.specs.declared.parts.TakeFault.TheVariants as take_faults
 use Rattle.hpx_node.specs.declared.parts.DeskFault.TheVariants as desk_faults
 use Rattle.hpx_ports.specs.declared.link.Latest.{Latest}
 use Rattle.hpx_ports.specs.declared.link.Latest.TheVariants.{Got}
-use Rattle.hpx_member.specs.Stops.{IsCause, IsOther, MayLeave, MayStop, stop_of_desk, stop_of_take}
+use Rattle.hpx_member.specs.Bodies.{is_frame}
+use Rattle.hpx_member.specs.Leads.{IsNoFrame, IsOfLink}
+use Rattle.hpx_member.specs.Stops.{IsCause, IsCauseBy, IsOther, MayLeave, MayStop, stop_of_desk, stop_of_take}
 use Rattle.hpx_member.specs.declared.stop.MemberFault.TheVariants.{BadFrame, Strange, OutOfPlace}
 use Rattle.hpx_member.specs.declared.stop.Stop.{Stop}
 use Rattle.hpx_member.specs.declared.stop.Stop.TheVariants.{Link, JournalFull, OutOfMemory, Fault}
@@ -52,3 +54,22 @@ pub take_other : (from : ℕ) (fault : TakeFault) → IsOther (stop_of_take from
 take_other from (take_faults.BadFrame at why) = tt
 take_other from (take_faults.Strange rule object kept) = tt
 take_other from take_faults.OutOfMemory = tt
+
+-- a cause other than a word out of place is the same of any member
+pub cause_other : (Odd : ℕ → List ℕ → Type 0) (t : Tables) (es : List Entry) (latest : Latest) (before after : ℕ) (stop : Stop) → IsOther stop
+    → IsCause t es latest before after stop → IsCauseBy Odd t es latest before after stop
+cause_other Odd t es latest before after Link other h = h
+cause_other Odd t es latest before after JournalFull other h = h
+cause_other Odd t es latest before after OutOfMemory other h = h
+cause_other Odd t es latest before after (Fault (BadFrame from at why)) other h = h
+cause_other Odd t es latest before after (Fault (Strange from rule object kept)) other h = h
+cause_other Odd t es latest before after (Fault (OutOfPlace from)) other h = absurd other
+
+pub link_other : (stop : Stop) → IsOfLink stop → IsOther stop
+link_other stop (inl is) = subst IsOther (sym is) tt
+link_other stop (inr is) = subst IsOther (sym is) tt
+
+-- a word that no wave waits for
+pub cause_odd : (t : Tables) (es : List Entry) (latest : Latest) (before after from : ℕ) (body : List ℕ) → latest ≡ Got from body → is_frame body ≡ false
+    → after ≡ before → IsCauseBy IsNoFrame t es latest before after (Fault (OutOfPlace from))
+cause_odd t es latest before after from body got control calm = ((body, got, control), calm)

@@ -32,16 +32,16 @@ leaves_status (Fault (OutOfPlace from)) may a b c = c refl
 
 module _ (act_of : Meaning) (k n : ℕ) (profile : Profile) (t : Tables) (es : List Entry) (trace : Option (List Post)) (here : t.here ≡ k)
     (localities : t.localities ≡ n) (by : t.profile ≡ profile) where
-  rules_is : rules_of act_of t.localities t.profile ≡ rules_of act_of n profile
+  pub rules_is : rules_of act_of t.localities t.profile ≡ rules_of act_of n profile
   rules_is = ap (λ m. rules_of act_of m t.profile) localities ∙ ap (λ p. rules_of act_of n p) by
 
-  part_left : (rest : List Frame) → Sits act_of t es rest trace → IsPart (rules_of act_of n profile) k es
+  pub part_left : (rest : List Frame) → Sits act_of t es rest trace → IsPart (rules_of act_of n profile) k es
   part_left rest sits =
       subst (λ j. IsPart (rules_of act_of n profile) j es) here
       (subst (λ r. IsPart r t.here es) rules_is
       (record { own = sits.seated.own; keeps = keeps act_of t es sits.stands sits.seated.own; within = sits.within }))
 
-  tells_left : (rest : List Frame) (status : ℕ) → Sits act_of t es rest trace → length rest ≤ 1 → (status ≢ 6 → status ≢ 7 → status ≢ 8 → rest ≡ [])
+  pub tells_left : (rest : List Frame) (status : ℕ) → Sits act_of t es rest trace → length rest ≤ 1 → (status ≢ 6 → status ≢ 7 → status ≢ 8 → rest ≡ [])
       → (tr : List Post) → trace ≡ Some tr → Tells (rules_of act_of n profile) k status es tr
   tells_left rest status sits few none tr told =
       let x : IsTraced (rules_of act_of t.localities t.profile) t.here (IsPassive t) es rest tr = sits.seated.traced tr told in

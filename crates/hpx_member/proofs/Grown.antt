@@ -7,7 +7,7 @@ use Rattle.std.specs.Int.{from_be_bytes, w32, w64}
 use Rattle.std.proofs.Math.Seq.{take-append_seam, drop-append_seam, take-length, drop-length}
 use Rattle.std.proofs.lemmas.Bool.{eq-eqb, eqb-true, cases_lt, cases_Bool}
 use Rattle.hpx_journal.specs.Entries.{Rules}
-use Rattle.hpx_part.specs.Data.{Event, In, Out, Entry}
+use Rattle.hpx_part.specs.Data.{Entry, Event, In, Line, Name, Out}
 use Rattle.hpx_part.specs.Parts.{at_boot}
 use Rattle.hpx_journal.specs.Whole.{arrives, IsClean}
 use Rattle.hpx_journal.specs.Laws.{outs, ins, outs_by, AreAt}
@@ -40,7 +40,7 @@ all-append P (x ∷ xs) ys h i = (h.0, all-append P xs ys h.1 i)
 
 -- ---- answers that were given stay right as the journal grows
 
-awake-append : (xs later : List Entry) → (xs ≡ [] → BeginsAwake later) → BeginsAwake xs → BeginsAwake (xs ++ later)
+pub awake-append : (xs later : List Entry) → (xs ≡ [] → BeginsAwake later) → BeginsAwake xs → BeginsAwake (xs ++ later)
 awake-append [] later h w = h refl
 awake-append (x ∷ xs) later h w = w
 
@@ -298,6 +298,31 @@ module _ (r : Rules) (k : ℕ) (idle : Type 0) (es : List Entry) where
         still = x.still;
       }
 
+  -- a word of control was sent that tells no numbers
+  pub seated_said : (trace : Option (List Post)) (to : ℕ) (body : List ℕ) → IsSeated r k idle es [] trace → is_frame body ≡ false → counts_of body ≡ None
+      → IsSeated r k idle es [] (followed trace (Sent to body ∷ []))
+  seated_said None to body seated fr silent = record { own = seated.own; traced = λ tr t. absurd (cc) }
+  seated_said (Some old) to body seated fr silent =
+      record { own = seated.own; traced = λ tr t. subst (IsTraced r k idle es []) (same old body tr t) said }
+    where
+      same : (old : List Post) (body : List ℕ) (tr : List Post) → Some (old ++ Sent to body ∷ []) ≡ Some tr → old ++ Sent to body ∷ [] ≡ tr
+      same old body tr h = cc
+
+      x : IsTraced r k idle es [] old
+      x = seated.traced old refl
+
+      none : frame_sent k (Sent to body) ≡ []
+      none = rw fr refl
+
+      said : IsTraced r k idle es [] (old ++ Sent to body ∷ [])
+      said = record {
+        sent = flat-one (frame_sent k) old (Sent to body) ∙ (ap (λ zs. frames_sent k old ++ zs) none ∙ (append-nil (frames_sent k old) ∙ x.sent));
+        came = flat-one (frame_got k) old (Sent to body) ∙ (append-nil (frames_got k old) ∙ x.came);
+        lengths = x.lengths;
+        told = told_more r k es old (Sent to body) x.lengths silent x.told;
+        still = x.still;
+      }
+
 pub seated_take : (r : Rules) (k : ℕ) (idle idle' : Type 0) (es es' : List Entry) (trace : Option (List Post)) (body : List ℕ)
     → IsSeated r k idle es ((k, body) ∷ []) trace → BeginsBy k (In body) es es' → IsSeated r k idle' es' [] trace
 seated_take r k idle idle' es es' trace body seated writes = record {
@@ -314,9 +339,26 @@ seated_take r k idle idle' es es' trace body seated writes = record {
       still = above r k idle idle' (In body) es es' writes (reverse tr) x.lengths x.told;
     }
 
+-- a line is fed
+pub seated_fed : (r : Rules) (k : ℕ) (idle idle' : Type 0) (es es' : List Entry) (trace : Option (List Post)) (a : Name) (bytes : List ℕ)
+    → IsSeated r k idle es [] trace → BeginsBy k (Line a bytes) es es' → IsSeated r k idle' es' [] trace
+seated_fed r k idle idle' es es' trace a bytes seated writes = record {
+  own = own_grows r k idle idle' (Line a bytes) es es' writes seated.own;
+  traced = λ tr t. fed tr (seated.traced tr t);
+}
+  where
+    fed : (tr : List Post) → IsTraced r k idle es [] tr → IsTraced r k idle' es' [] tr
+    fed tr x = record {
+      sent = x.sent ∙ sym (outs_grow r k idle idle' (Line a bytes) es es' writes ∙ append-nil (outs es));
+      came = x.came ∙ ap (λ zs. zs ++ []) (sym (ins_grow r k idle idle' (Line a bytes) es es' writes ∙ append-nil (ins es)));
+      lengths = x.lengths;
+      told = told_roused r k idle idle' (Line a bytes) es es' writes (reverse tr) x.lengths (inl tt) x.told x.still;
+      still = above r k idle idle' (Line a bytes) es es' writes (reverse tr) x.lengths x.told;
+    }
+
 -- ---- numbers that are told
 
-counts_is : (body : List ℕ) (c : Told) → counts_of body ≡ Some c → is_frame body ≡ false
+pub counts_is : (body : List ℕ) (c : Told) → counts_of body ≡ Some c → is_frame body ≡ false
 counts_is body c h = elim (cases_Bool (is_frame body)) [ inl t ↦ absurd (none (frame_tells body t)) | inr f ↦ f ]
   where
     none : counts_of body ≡ None → ⊥

@@ -8,3 +8,8 @@ pub mod Heeded
 pub mod Feeding
 pub mod Causes
 pub mod Ended
+pub mod Asked
+pub mod Led
+pub mod Serving
+pub mod Halted
+pub mod Whys

@@ -1,7 +1,8 @@
 -- What a member keeps over each call.
-use Rattle.std.proofs.Common.{ℕ, List, [], ◌∷◌, ◌++◌, ◌≡◌, ◌≤◌, Option, Some, true, false, refl, sym, ap, ◌∙◌, subst, inl, inr, arith, length, append-nil}
-use Rattle.hpx_journal.specs.Entries.{Rules, Frame}
-use Rattle.hpx_part.specs.Data.{Entry, In, Out}
+use Rattle.std.proofs.Common.{ℕ, List, [], ◌∷◌, ◌++◌, ◌≡◌, ◌≤◌, Option, Some, None, true, false, refl, sym, ap, ◌∙◌, subst, inl, inr, arith, length, append-nil, append_assoc}
+use Rattle.hpx_journal.specs.Entries.{Frame, Rules}
+use Rattle.hpx_journal.specs.Sessions.{FeedsNothing}
+use Rattle.hpx_part.specs.Data.{Entry, In, Line, Name, Out}
 use Rattle.hpx_tables.specs.Tables.{IsPassive, Tables}
 use Rattle.hpx_steps.specs.Frames.{IsSpelled}
 use Rattle.hpx_steps.specs.Limits.{IsWithin}
@@ -18,17 +19,17 @@ use Rattle.hpx_member.specs.Seats.{Grows, IsSameSite, IsSeated, IsTraced, Meanin
 use Rattle.hpx_member.specs.Stops.{MayLeave, SitsLeft}
 use Rattle.hpx_member.specs.declared.stop.Stop.{Stop}
 use Rattle.hpx_ended.specs.Waves.{BeginsAwake}
-use Rattle.hpx_member.proofs.Grown.{none_later}
+use Rattle.hpx_member.proofs.Grown.{all-append, awake-append, none_later, seated_fed, seated_said}
 use Rattle.hpx_member.proofs.Calls.{accepted, acted, answered, listened, pumped, unheard}
-use Rattle.hpx_member.proofs.Written.{begins_in, begins_out}
+use Rattle.hpx_member.proofs.Written.{begins_in, begins_line, begins_out}
 use Rattle.hpx_member.proofs.Turned.{rests, sent_is, site_of, taken_is}
 
 module _ (act_of : Meaning) where
-  abbrev rules_at : Tables → Rules
+  abbrev pub rules_at : Tables → Rules
   rules_at t = rules_of act_of t.localities t.profile
 
   -- the same site has the same rules
-  rules_same : (t t' : Tables) → IsSameSite t t' → rules_at t' ≡ rules_at t
+  pub rules_same : (t t' : Tables) → IsSameSite t t' → rules_at t' ≡ rules_at t
   rules_same t t' s = ap (λ n. rules_of act_of n t'.profile) s.localities ∙ ap (λ p. rules_of act_of t.localities p) s.profile
 
   seated_as : (t t' : Tables) (es : List Entry) (rest : List Frame) (trace : Option (List Post)) → IsSameSite t t'
@@ -89,6 +90,27 @@ module _ (act_of : Meaning) where
     seated = answered (rules_at t) t.here (IsPassive t) es trace trace' to body bytes c sits.seated passive
         (rests act_of t es sits.stands sits.seated.own passive) counts
         (sent ∙ sent_is act_of t es sits.stands sits.seated.own) (taken ∙ taken_is act_of t es sits.stands sits.seated.own) told same;
+  }
+
+  -- a word of control was sent that tells no numbers
+  pub sits_said : (t : Tables) (es : List Entry) (trace trace' : Option (List Post)) (to : ℕ) (body : List ℕ) → Sits act_of t es [] trace
+      → is_frame body ≡ false → counts_of body ≡ None → trace' ≡ followed trace (Sent to body ∷ []) → Sits act_of t es [] trace'
+  sits_said t es trace trace' to body sits control silent told = record {
+    stands = sits.stands;
+    within = sits.within;
+    seated = subst (λ tr. IsSeated (rules_at t) t.here (IsPassive t) es [] tr) (sym told)
+        (seated_said (rules_at t) t.here (IsPassive t) es trace to body sits.seated control silent);
+  }
+
+  -- a line was fed
+  pub sits_fed : (t t' : Tables) (es es' : List Entry) (trace : Option (List Post)) (a : Name) (bytes : List ℕ) → Sits act_of t es [] trace
+      → Writes (Line a bytes ∷ []) t t' es es' → Stands act_of t' es' → IsWithin es' → Sits act_of t' es' [] trace
+  sits_fed t t' es es' trace a bytes sits writes stands within = record {
+    stands = stands;
+    within = within;
+    seated = seated_as t t' es' [] trace (site_of t t' es es' _ writes)
+        (subst (λ k. IsSeated (rules_at t) k (IsPassive t') es' [] trace) (sym writes.here)
+        (seated_fed (rules_at t) t.here (IsPassive t) (IsPassive t') es es' trace a bytes sits.seated (begins_line t t' es es' a bytes writes)));
   }
 
   -- a word of control leaves nothing to accept
@@ -171,3 +193,21 @@ grows_taken t t' es es' bytes takes =
       woken = λ passive. tt;
       still = λ passive none. absurd (cc);
     }
+
+-- one call behind another
+pub grows_then : (t mid t' : Tables) (es between es' : List Entry) → Grows t mid es between → Grows mid t' between es' → Grows t t' es es'
+grows_then t mid t' es between es' a b = record {
+  later = a.later ++ b.later;
+  is = b.is ∙ (ap (λ xs. xs ++ b.later) a.is ∙ append_assoc es a.later b.later);
+  unfed = all-append (λ e. FeedsNothing e.event) a.later b.later a.unfed b.unfed;
+  woken = λ passive. awake-append a.later b.later (λ none. b.woken (a.still passive none)) (a.woken passive);
+  still = λ passive none. b.still (a.still passive (front_none a.later b.later none)) (rest_none a.later b.later none);
+}
+  where
+    front_none : (xs ys : List Entry) → xs ++ ys ≡ [] → xs ≡ []
+    front_none [] ys h = refl
+    front_none (x ∷ xs) ys h = absurd (cc)
+
+    rest_none : (xs ys : List Entry) → xs ++ ys ≡ [] → ys ≡ []
+    rest_none [] ys h = h
+    rest_none (x ∷ xs) ys h = absurd (cc)

@@ -7,10 +7,11 @@ use Rattle.hpx_journal.specs.Entries.{Rules}
 use Rattle.hpx_journal.specs.Foreign.{NodeKeeps}
 use Rattle.hpx_journal.specs.Laws.{AreAt, outs, ins}
 use Rattle.hpx_journal.specs.Weights.{Book}
-use Rattle.hpx_journal.specs.Whole.{IsClean, part}
+use Rattle.hpx_journal.specs.Whole.{IsClean, part, run_local}
 use Rattle.hpx_journal.specs.Sessions.{FeedsNothing}
 use Rattle.hpx_part.specs.Data.{Entry, Event, Fire}
 use Rattle.hpx_part.specs.Parts.{at_boot}
+use Rattle.hpx_tables.specs.Awaited.{awaited_at, awaited_here}
 use Rattle.hpx_tables.specs.Tables.{IsPassive, Tables}
 use Rattle.hpx_steps.specs.Limits.{IsWithin}
 use Rattle.hpx_steps.specs.Rest.{Stands, StandsAtRest, rules_of}
@@ -20,6 +21,7 @@ use Rattle.hpx_value.specs.declared.acts.Job.{Job}
 use Rattle.hpx_journal.specs.Entries.{name_of}
 use Rattle.hpx_tables.specs.Jobs.{Starts}
 use Rattle.hpx_node.specs.Handled.{Tends}
+use Rattle.hpx_node.proofs.Numbers.{awaited_shown}
 use Rattle.hpx_node.proofs.Passive.{passive_quiet, starts_none, tends_none}
 use Rattle.hpx_node.proofs.RowLaws.{frees_the_dead}
 use Rattle.hpx_ended.specs.Waves.{IsAtRest}
@@ -128,6 +130,13 @@ module _ (act_of : Meaning) (t : Tables) (es : List Entry) (stands : Stands act_
         still = passive_quiet t _ passive (told.stands.keeps.shows (subst (IsClean r (at_boot r t.here)) (sym (own_part t.here es own)) clean));
         frees = frees_the_dead r t es told.stands passive;
       })
+
+  -- and as many answers are awaited as the part says
+  pub waits_for : IsClean r (at_boot r t.here) es → awaited_here t ≡ awaited_at (run_local r (at_boot r t.here) es)
+  waits_for clean =
+      let whole : IsClean r (at_boot r t.here) (part t.here es) = subst (IsClean r (at_boot r t.here)) (sym (own_part t.here es own)) clean in
+      subst (λ xs. awaited_here t ≡ awaited_at (run_local r (at_boot r t.here) xs)) (own_part t.here es own)
+      (awaited_shown t _ (told.stands.keeps.shows whole) (told.stands.answered whole))
 
 -- ---- what each call of the node's own does
 

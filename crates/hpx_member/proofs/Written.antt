@@ -11,7 +11,7 @@ use Rattle.hpx_journal.specs.Laws.{AreAt, outs, ins, outs_by}
 use Rattle.hpx_journal.specs.Sessions.{FeedsNothing}
 use Rattle.hpx_journal.specs.Weights.{Book}
 use Rattle.hpx_journal.specs.Whole.{arrives_at}
-use Rattle.hpx_part.specs.Data.{Entry, Event, Fire, In, Left, Line, Mail, Out}
+use Rattle.hpx_part.specs.Data.{Entry, Event, Fire, In, Left, Line, Mail, Name, Out}
 use Rattle.hpx_part.specs.Parts.{at_all}
 use Rattle.hpx_tables.specs.Splits.{asked_events}
 use Rattle.hpx_tables.specs.Tables.{Tables}
@@ -76,6 +76,9 @@ inside_of t t' es es' w = record {
 
 pub begins_out : (t t' : Tables) (es es' : List Entry) (to : ℕ) (bytes : List ℕ) → Writes (Out to bytes ∷ []) t t' es es' → BeginsBy t.here (Out to bytes) es es'
 begins_out t t' es es' to bytes w = record { later = []; is = w.grows; own = tt; outs = refl; ins = refl; unfed = tt }
+
+pub begins_line : (t t' : Tables) (es es' : List Entry) (a : Name) (bytes : List ℕ) → Writes (Line a bytes ∷ []) t t' es es' → BeginsBy t.here (Line a bytes) es es'
+begins_line t t' es es' a bytes w = record { later = []; is = w.grows; own = tt; outs = refl; ins = refl; unfed = tt }
 
 pub begins_in : (t t' : Tables) (es es' : List Entry) (bytes : List ℕ) → Takes bytes t t' es es' → BeginsBy t.here (In bytes) es es'
 begins_in t t' es es' bytes x =

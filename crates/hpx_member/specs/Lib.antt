@@ -3,3 +3,7 @@ pub mod Seats
 pub mod Stops
 pub mod Words
 pub mod Feeding
+pub mod Rounds
+pub mod Talks
+pub mod Serves
+pub mod Leads

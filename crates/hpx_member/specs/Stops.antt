@@ -1,5 +1,5 @@
 -- Why a member ends.
-use Rattle.std.specs.Prelude.{ℕ, List, Option, Some, None, Result, Ok, Err, [], ◌∷◌, ◌≡◌, ◌⊎◌}
+use Rattle.std.specs.Prelude.{ℕ, List, Option, Some, None, Result, Ok, Err, [], ◌∷◌, ◌≡◌, ◌≤◌, ◌⊎◌}
 use Rattle.hpx_journal.specs.Entries.{Frame}
 use Rattle.hpx_journal.specs.Weights.{HasRoom}
 use Rattle.hpx_part.specs.Data.{Entry}
@@ -47,19 +47,27 @@ abbrev pub end_status : Result (Unit {0}) Stop → ℕ
 end_status (Ok x) = 0
 end_status (Err stop) = status_of stop
 
+-- the statuses of a worker: 0, or 4 to 8
+abbrev pub IsWorkersStatus : ℕ → Type 0
+IsWorkersStatus status = (status ≡ 0) ⊎ ((4 ≤ status) × (status ≤ 8))
+
 abbrev pub end_fault : Result (Unit {0}) Stop → Option MemberFault
 end_fault (Ok x) = None
 end_fault (Err stop) = fault_of stop
 
 -- ---- causes
 
--- what these tables refuse of the body that came last, or of a message of the node to itself
-abbrev pub IsFault : Tables → Latest → MemberFault → Type 0
-IsFault t latest (BadFrame from at why) = (bytes : List ℕ) × (latest ≡ Got from bytes) × NotTaken t bytes (take_faults.BadFrame at why)
-IsFault t latest (Strange from rule object kept) =
+-- what these tables refuse of the body that came last, or of a message of the node to itself; or a word that is odd by this
+abbrev pub IsFaultBy : (ℕ → List ℕ → Type 0) → Tables → Latest → MemberFault → Type 0
+IsFaultBy Odd t latest (BadFrame from at why) = (bytes : List ℕ) × (latest ≡ Got from bytes) × NotTaken t bytes (take_faults.BadFrame at why)
+IsFaultBy Odd t latest (Strange from rule object kept) =
     ((bytes : List ℕ) × (latest ≡ Got from bytes) × NotTaken t bytes (take_faults.Strange rule object kept))
     ⊎ ((from ≡ t.here) × NotTended t (desk_faults.Strange rule object kept))
-IsFault t latest (OutOfPlace from) = (bytes : List ℕ) × (latest ≡ Got from bytes) × IsOutOfPlace from bytes
+IsFaultBy Odd t latest (OutOfPlace from) = (bytes : List ℕ) × (latest ≡ Got from bytes) × Odd from bytes
+
+-- the same of a worker: a word is odd that no worker is told
+abbrev pub IsFault : Tables → Latest → MemberFault → Type 0
+IsFault t latest fault = IsFaultBy IsOutOfPlace t latest fault
 
 -- why a node stops by itself: there is no room, or its first message to itself is strange
 abbrev pub MayStop : Tables → List Entry → Stop → Type 0
@@ -71,11 +79,14 @@ MayStop t es (Fault (Strange from rule object kept)) = (from ≡ t.here) × NotT
 MayStop t es (Fault (OutOfPlace from)) = ⊥
 
 -- why a member stops, with the body that came last, and the count of the link's faults before and after: it rises at a fault of the link alone
+abbrev pub IsCauseBy : (ℕ → List ℕ → Type 0) → Tables → List Entry → Latest → ℕ → ℕ → Stop → Type 0
+IsCauseBy Odd t es latest before after Link = Rose before after
+IsCauseBy Odd t es latest before after JournalFull = (HasRoom es → ⊥) × (after ≡ before)
+IsCauseBy Odd t es latest before after OutOfMemory = after ≡ before
+IsCauseBy Odd t es latest before after (Fault fault) = IsFaultBy Odd t latest fault × (after ≡ before)
+
 abbrev pub IsCause : Tables → List Entry → Latest → ℕ → ℕ → Stop → Type 0
-IsCause t es latest before after Link = Rose before after
-IsCause t es latest before after JournalFull = (HasRoom es → ⊥) × (after ≡ before)
-IsCause t es latest before after OutOfMemory = after ≡ before
-IsCause t es latest before after (Fault fault) = IsFault t latest fault × (after ≡ before)
+IsCause t es latest before after stop = IsCauseBy IsOutOfPlace t es latest before after stop
 
 -- a stop for another cause than a word out of place
 abbrev pub IsOther : Stop → Type 0

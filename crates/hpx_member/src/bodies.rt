@@ -1,7 +1,8 @@
 //! The bodies on a link: frames, and words of control between members.
-ghost use Rattle.std.specs.Prelude.{◌≡◌, ◌++◌, ◌∷◌, Some, IfOk, true, false};
-ghost use Rattle.std.specs.Int.{to_be_bytes, w32, w64};
-ghost use Rattle.hpx_member.specs.Bodies.{IsOutOfPlace, counts_of, end_body, is_frame, is_wave};
+ghost use Rattle.std.specs.Prelude.{◌≡◌, ◌≤◌, ◌++◌, ◌∷◌, Some, IfOk, true, false, length, take};
+ghost use Rattle.std.specs.Int.{from_be_bytes, to_be_bytes, w32, w64};
+ghost use Rattle.hpx_member.specs.Bodies.{IsOutOfPlace, counts_of, end_body, is_frame, is_wave, numbers_in};
+ghost use Rattle.hpx_member.specs.Rounds.{wave_body};
 ghost use Rattle.hpx_member.specs.Words.{wave_of};
 
 use hpx_value::items::Bytes;
@@ -51,6 +52,58 @@ pub fn read_word(from: u32, body: &[u8]) -> Word
         [0xf2] => Word::End,
         [0xf0, a, b, c, d] => Word::Wave(u32::from_be_bytes([*a, *b, *c, *d])),
         _ => Word::OutOfPlace,
+    }
+}
+
+/// The body that ends a worker.
+pub const END: &[u8] = &[0xf2];
+
+/// The body that begins a wave.
+pub fn wave(alloc: Global, number: u32) -> Result<Bytes, OutOfMemory>
+    ensures { IfOk result (λ body. body ≡ wave_body number) }
+{
+    let mut bytes = vec![in alloc; 0xf0u8]?;
+    bytes.extend_from_slice(&number.to_be_bytes())?;
+    Ok(Bytes::from_vec(bytes))
+}
+
+fn u32_of(bytes: &[u8]) -> u32
+    requires { 4 ≤ length bytes.now }
+    ensures { result ≡ from_be_bytes w32 (take 4 bytes.now) }
+{
+    let mut word = [0u8; 4];
+    word.copy_from_slice(&bytes[..4]);
+    u32::from_be_bytes(word)
+}
+
+fn u64_of(bytes: &[u8]) -> u64
+    requires { 8 ≤ length bytes.now }
+    ensures { result ≡ from_be_bytes w64 (take 8 bytes.now) }
+{
+    let mut word = [0u8; 8];
+    word.copy_from_slice(&bytes[..8]);
+    u64::from_be_bytes(word)
+}
+
+fn numbers(bytes: &[u8]) -> Told
+    requires { length bytes.now ≡ 20 }
+    ensures { result ≡ numbers_in bytes.now }
+{
+    let behind = &bytes[4..];
+    Told {
+        wave: u32_of(bytes),
+        sent: u64_of(behind),
+        taken: u64_of(&behind[8..]),
+    }
+}
+
+/// What a body of Counts tells.
+pub fn read_counts(body: &[u8]) -> Option<Told>
+    ensures { result ≡ counts_of body.now }
+{
+    match body {
+        [0xf1, rest @ ..] if rest.len() == 20 => Some(numbers(rest)),
+        _ => None,
     }
 }
 

@@ -2,7 +2,9 @@
 #![tactic(auto)]
 
 pub mod bodies;
+pub mod console;
 pub mod end;
+pub mod lines;
 mod seat;
 pub mod stop;
 mod turn;

@@ -1,15 +1,17 @@
 //! A member: its node, its journal and its link.
-ghost use Rattle.std.specs.Prelude.{◌≡◌, ◌≤◌, ◌∷◌, [], true, false, Ok, IfOk, IfErr, IfSome, IfNone, OnOk, OnErr};
+ghost use Rattle.std.specs.Prelude.{◌≡◌, ◌≤◌, ◌∷◌, [], true, false, Ok, None, IfOk, IfErr, IfSome, IfNone, OnOk, OnErr};
 ghost use Rattle.hpx_journal.specs.Weights.{HasRoom};
 ghost use Rattle.hpx_ports.specs.declared.link.Latest.TheVariants.{Got};
 ghost use Rattle.hpx_steps.specs.Frames.{IsSpelled};
 ghost use Rattle.hpx_tables.specs.Tables.{IsPassive};
-ghost use Rattle.hpx_member.specs.Bodies.{heard, is_frame};
+ghost use Rattle.hpx_member.specs.Bodies.{counts_of, heard, is_frame};
+ghost use Rattle.hpx_member.specs.Leads.{IsOfLink, ToldSome};
+ghost use Rattle.hpx_member.specs.Rounds.{told_all};
 ghost use Rattle.hpx_member.specs.Seats.{Grows, IsSameSite, MaySend, Sits};
 ghost use Rattle.hpx_member.specs.Stops.{IsCause, IsOther, MayLeave};
 ghost use Rattle.hpx_member.specs.Words.{IsHeeded};
 ghost use Rattle.hpx_ports.specs.Told.{followed};
-ghost use Rattle.hpx_ports.specs.declared.link.Post.TheVariants.{Received};
+ghost use Rattle.hpx_ports.specs.declared.link.Post.TheVariants.{Received, Sent};
 
 use crate::bodies::counts;
 use crate::stop::{Stop, stop_of_link, stop_of_take};
@@ -90,6 +92,70 @@ impl<A: Acts + Copy, L: Link + Drop> Seat<A, L> {
         }
         self.node.gone(&mut self.book, to, frame);
         Ok(true)
+    }
+
+    /// A turn of the node's own, or else a message is sent. False where there is neither.
+    pub fn go(&mut self, alloc: Global) -> Result<bool, Stop>
+        requires sits { Sits A.act_of self.old.node.tables self.old.book.entries [] (L.trace self.old.link) }
+        ensures sits { Sits A.act_of self.new.node.tables self.new.book.entries [] (L.trace self.new.link) }
+        ensures site { IsSameSite self.old.node.tables self.new.node.tables }
+        ensures grows { Grows self.old.node.tables self.new.node.tables self.old.book.entries self.new.book.entries }
+        ensures room { result ≡ Ok false → HasRoom self.new.book.entries }
+        ensures sends { MaySend (L.trace self.old.link) (L.trace self.new.link) }
+        ensures calm { OnOk result (L.faults self.new.link ≡ L.faults self.old.link) }
+        ensures stops { IfErr result (IsCause self.new.node.tables self.new.book.entries (L.latest self.new.link) (L.faults self.old.link) (L.faults self.new.link)) }
+        ensures other { IfErr result IsOther }
+    {
+        if !self.book.room() {
+            return Err(Stop::JournalFull);
+        }
+        if self.act(alloc)? {
+            return Ok(true);
+        }
+        self.pump(alloc)
+    }
+
+    /// Sends a word of control that tells no numbers.
+    fn say(&mut self, to: u32, body: &[u8]) -> Result<(), Stop>
+        requires word { is_frame body.now ≡ false }
+        requires silent { counts_of body.now ≡ None }
+        requires sits { Sits A.act_of self.old.node.tables self.old.book.entries [] (L.trace self.old.link) }
+        ensures sits { Sits A.act_of self.new.node.tables self.new.book.entries [] (L.trace self.new.link) }
+        ensures node { self.new.node ≡ self.old.node }
+        ensures book { self.new.book ≡ self.old.book }
+        ensures said { OnOk result (L.trace self.new.link ≡ followed (L.trace self.old.link) (Sent to body.now ∷ [])) }
+        ensures unsaid { OnErr result (L.trace self.new.link ≡ L.trace self.old.link) }
+        ensures calm { OnOk result (L.faults self.new.link ≡ L.faults self.old.link) }
+        ensures stops { IfErr result (IsCause self.new.node.tables self.new.book.entries (L.latest self.new.link) (L.faults self.old.link) (L.faults self.new.link)) }
+        ensures link { IfErr result IsOfLink }
+    {
+        match self.link.send(to, body) {
+            Ok(()) => Ok(()),
+            Err(fault) => Err(stop_of_link(fault)),
+        }
+    }
+
+    /// Sends a word of control that tells no numbers to members 1 to so many, in order.
+    pub fn tell_all(&mut self, others: u32, body: &[u8]) -> Result<(), Stop>
+        requires word { is_frame body.now ≡ false }
+        requires silent { counts_of body.now ≡ None }
+        requires sits { Sits A.act_of self.old.node.tables self.old.book.entries [] (L.trace self.old.link) }
+        ensures sits { Sits A.act_of self.new.node.tables self.new.book.entries [] (L.trace self.new.link) }
+        ensures node { self.new.node ≡ self.old.node }
+        ensures book { self.new.book ≡ self.old.book }
+        ensures told { OnOk result (L.trace self.new.link ≡ followed (L.trace self.old.link) (told_all body.now others)) }
+        ensures some { OnErr result (ToldSome body.now others (L.trace self.old.link) (L.trace self.new.link)) }
+        ensures calm { OnOk result (L.faults self.new.link ≡ L.faults self.old.link) }
+        ensures stops { IfErr result (IsCause self.new.node.tables self.new.book.entries (L.latest self.new.link) (L.faults self.old.link) (L.faults self.new.link)) }
+        ensures link { IfErr result IsOfLink }
+    {
+        for i in 0..others {
+            match self.say(i + 1, body) {
+                Ok(()) => {}
+                Err(stop) => return Err(stop),
+            }
+        }
+        Ok(())
     }
 
     /// Tells the console how many frames were sent and accepted, where nothing is to be done here.

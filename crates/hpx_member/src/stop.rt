@@ -1,7 +1,9 @@
 //! Why a member ends before it is told to.
 ghost use Rattle.std.specs.Prelude.{◌≡◌};
+ghost use Rattle.hpx_member.specs.Leads.{halt_fault, halt_status};
 ghost use Rattle.hpx_member.specs.Stops.{fault_of, status_of, stop_of_desk, stop_of_link, stop_of_take};
 
+use crate::lines::LineFault;
 use hpx_node::parts::{DeskFault, TakeFault};
 use hpx_parcel::parcel::Why;
 use hpx_ports::link::LinkFault;
@@ -77,6 +79,42 @@ impl Stop {
         match self {
             Stop::Fault(fault) => Some(*fault),
             Stop::Link | Stop::JournalFull | Stop::OutOfMemory => None,
+        }
+    }
+}
+
+/// Why a console ends before all is done.
+#[derive(Clone, Copy, Debug, PartialEq, Eq, Error)]
+pub enum Halt {
+    /// A line was not handed out, or what was written was not shown.
+    #[error("{0}")]
+    Lines(LineFault),
+    /// It ends as any member does.
+    #[error("{0}")]
+    Member(Stop),
+}
+
+impl Halt {
+    /// The status that it ends with.
+    pub fn status(&self) -> u8
+        ensures { result ≡ halt_status self.now }
+    {
+        match self {
+            Halt::Lines(LineFault::Read) => 2,
+            Halt::Lines(LineFault::Write) => 3,
+            Halt::Lines(LineFault::OutOfMemory) => 6,
+            Halt::Lines(LineFault::InputFull) => 9,
+            Halt::Member(stop) => stop.status(),
+        }
+    }
+
+    /// What came that was not accepted.
+    pub fn fault(&self) -> Option<MemberFault>
+        ensures { result ≡ halt_fault self.now }
+    {
+        match self {
+            Halt::Lines(_) => None,
+            Halt::Member(stop) => stop.fault(),
         }
     }
 }

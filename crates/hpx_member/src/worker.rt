@@ -11,12 +11,12 @@ ghost use Rattle.std.specs.List.{AllByRecursion};
 ghost use Rattle.hpx_journal.specs.Sessions.{FeedsNothing};
 ghost use Rattle.hpx_member.specs.Feeding.{AddsNoLine};
 ghost use Rattle.hpx_member.specs.Seats.{IsNodeAt, IsPart, IsSameSite, Sits, Tells};
-ghost use Rattle.hpx_member.specs.Stops.{IsCause, IsFault, SitsLeft, status_of_fault};
+ghost use Rattle.hpx_member.specs.Stops.{IsCause, IsFault, IsWorkersStatus, SitsLeft, status_of_fault};
 ghost use Rattle.hpx_member.specs.Words.{Heeds, HeedsBut, IsHeeded, StopsHeeding};
 ghost use Rattle.hpx_ports.specs.declared.link.Post.TheVariants.{Received};
 
 use crate::bodies::{Word, is_frame, read_word};
-use crate::end::{MemberEnd, ended};
+use crate::end::{MemberEnd, ended, unbooted};
 use crate::seat::Seat;
 use crate::stop::{MemberFault, Stop};
 use hpx_journal::journal::Journal;
@@ -116,13 +116,7 @@ impl<A: Acts + Copy, L: Link + Drop> WorkerSeat<A, L> {
         ensures end { result ≡ Ok Step.End → L.latest self.new.seat.link ≡ Got 0 end_body }
         ensures stops { IfErr result (IsCause self.new.seat.node.tables self.new.seat.book.entries (L.latest self.new.seat.link) (L.faults self.old.seat.link) (L.faults self.new.seat.link)) }
     {
-        if !self.seat.book.room() {
-            return Err(Stop::JournalFull);
-        }
-        if self.seat.act(alloc)? {
-            return Ok(Step::On);
-        }
-        match self.seat.pump(alloc) {
+        match self.seat.go(alloc) {
             Ok(true) => return Ok(Step::On),
             Ok(false) => {}
             Err(stop) => return Err(stop),
@@ -181,6 +175,7 @@ pub fn worker<R: Wait, A: Acts + Copy, L: Link + Drop>(
     ensures unfed { AllByRecursion (λ e. FeedsNothing e.event) result.journal.entries }
     ensures heeds { (tr : List Post) → L.trace result.link ≡ Some tr → Heeds result.status tr }
     ensures end { result.status ≡ 0 → L.latest result.link ≡ Got 0 end_body }
+    ensures ends { IsWorkersStatus result.status }
     ensures failed { result.status ≡ 4 → Rose (L.faults link) (L.faults result.link) }
     ensures calm { result.status ≢ 4 → L.faults result.link ≡ L.faults link }
     ensures full { result.status ≡ 5 → HasRoom result.journal.entries → ⊥ }
@@ -190,15 +185,7 @@ pub fn worker<R: Wait, A: Acts + Copy, L: Link + Drop>(
 {
     let node = match Node::boot(alloc, acts, here, profile) {
         Ok(node) => node,
-        Err(OutOfMemory) => {
-            return MemberEnd {
-                status: Stop::OutOfMemory.status(),
-                node: None,
-                journal: Journal::new(alloc),
-                link,
-                fault: None,
-            };
-        }
+        Err(OutOfMemory) => return unbooted(alloc, link),
     };
     let seat = Seat {
         acts,

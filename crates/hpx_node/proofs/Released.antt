@@ -162,11 +162,11 @@ accepts_queued p t t' accepts id place e =
     let d : Accepts (Arrived id place) t t' = subst (λ q. Accepts q t t') e accepts in ap (λ (v : Tables). length v.queued) d
 
 -- as much was made, less the message that was taken from the desk
-pub made_popped : (o : Option Id) (queued n accepted capacity long capacity' long' rest : ℕ) → IfSome o (λ i. queued + 1280 ≤ n) → n ≤ min (min accepted (capacity - long)) rest
-    → capacity' ≡ capacity → long' ≤ long → IfSome o (λ i. queued + 1280 ≤ min (min accepted (capacity' - long')) rest)
-made_popped None queued n accepted capacity long capacity' long' rest made h same fewer = tt
-made_popped (Some i) queued n accepted capacity long capacity' long' rest made h same fewer =
-    let k = spare_popped n accepted capacity long capacity' long' rest h same fewer in omega (arith, k, made)
+pub made_popped : (o : Option Id) (queued n accepted desk desk' rest : ℕ) → IfSome o (λ i. queued + 1280 ≤ n) → n ≤ min (min accepted desk) rest
+    → desk ≤ desk' → IfSome o (λ i. queued + 1280 ≤ min (min accepted desk') rest)
+made_popped None queued n accepted desk desk' rest made h more = tt
+made_popped (Some i) queued n accepted desk desk' rest made h more =
+    let k = spare_popped n accepted desk desk' rest h more in omega (arith, k, made)
 
 -- behind a message that tells that an object landed nothing follows, so there is as much memory as was made
 pub room_to_go : (act_of : ℕ → ℕ → ℕ → State → Act → Outcome) (t : Tables) (queued : ℕ) (mid new : Locality) (p : Parcel) (x : Next) (o : Option Id) (a : ℕ) → o ≡ landed_in p → IsNext act_of t p x

@@ -5,9 +5,8 @@ use Rattle.hpx_node.proofs.Right.{near_popped}
 use Rattle.hpx_node.proofs.Same.{writes_then}
 
 -- a message less on the desk leaves no less memory
-pub spare_popped : (n accepted capacity long capacity' long' rest : ℕ) → n ≤ min (min accepted (capacity - long)) rest → capacity' ≡ capacity → long' ≤ long
-    → n ≤ min (min accepted (capacity' - long')) rest
-spare_popped n accepted capacity long capacity' long' rest h same fewer = omega (arith, h, same, fewer)
+pub spare_popped : (n accepted desk desk' rest : ℕ) → n ≤ min (min accepted desk) rest → desk ≤ desk' → n ≤ min (min accepted desk') rest
+spare_popped n accepted desk desk' rest h more = omega (arith, h, more)
 
 module _ (t m : Tables) (p q : Parcel) (rest : List Parcel) (x : Option Broken) (same : m ≡ t) (first : m.desk ≡ p ∷ rest)
     (is : q ≡ get_or t.desk 0 q) (told : x ≡ broken t q) (none : x ≡ None) where

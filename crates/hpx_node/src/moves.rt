@@ -3,22 +3,21 @@ ghost use Rattle.std.specs.Prelude.{◌≡◌, ◌≤◌, ◌<◌, ◌+◌, ◌+
 ghost use Rattle.std.specs.List.{remove};
 
 use hpx_tables::kept::{Arrival, Letter};
+use hpx_tables::queue::Queue;
 use hpx_value::memory::OutOfMemory;
 use std::alloc::Global;
-use std::collections::VecDeque;
 use std::marker::Model;
 
 /// Moves that were granted, messages that stay for good, and the moves with which objects came. Memory is taken by `reserve` alone.
 #[derive(Drop)]
 pub struct Moves {
-    leaving: VecDeque<Letter>,
-    stray: VecDeque<Letter>,
+    leaving: Queue<Letter>,
+    stray: Queue<Letter>,
     came: Vec<Arrival>,
 }
 
 impl Model for Moves {
     ghost use Rattle.std.specs.Prelude.{◌-◌, min, vec_len, vec_capacity};
-    ghost use Rattle.std.specs.VecDeque.{deque_len, deque_capacity};
     ghost use Rattle.hpx_node.specs.Moving.{Moving};
 
     ghost Value = { Moving };
@@ -27,8 +26,7 @@ impl Model for Moves {
       leaving = m.leaving.items;
       stray = m.stray.items;
       came = m.came.items;
-      spare = min (deque_capacity m.leaving - deque_len m.leaving)
-          (min (deque_capacity m.stray - deque_len m.stray) (vec_capacity m.came - vec_len m.came));
+      spare = min m.leaving.spare (min m.stray.spare (vec_capacity m.came - vec_len m.came));
     } };
 }
 
@@ -40,8 +38,8 @@ impl Moves {
         ensures came { result.came ≡ [] }
     {
         Moves {
-            leaving: VecDeque::new(alloc),
-            stray: VecDeque::new(alloc),
+            leaving: Queue::new(alloc),
+            stray: Queue::new(alloc),
             came: Vec::new(alloc),
         }
     }
@@ -66,14 +64,14 @@ impl Moves {
     }
 
     /// The moves that were granted: their objects are to leave.
-    pub fn leaving(&self) -> &VecDeque<Letter>
+    pub fn leaving(&self) -> &Queue<Letter>
         ensures { result.now.items ≡ self.now.leaving }
     {
         &self.leaving
     }
 
     /// The messages that stay for good: objects that may not stand here, and actions on nothing.
-    pub fn stray(&self) -> &VecDeque<Letter>
+    pub fn stray(&self) -> &Queue<Letter>
         ensures { result.now.items ≡ self.now.stray }
     {
         &self.stray

@@ -14,11 +14,11 @@ use hpx_tables::boot::roots;
 use hpx_tables::kept::{Fit, Letter, Outgoing};
 use hpx_tables::objects::Objects;
 use hpx_tables::pending::Pending;
+use hpx_tables::queue::Queue;
 use hpx_value::acts::Acts;
 use hpx_value::memory::OutOfMemory;
 use hpx_value::profile::Profile;
 use std::alloc::Global;
-use std::collections::VecDeque;
 use std::marker::Model;
 
 mod desk;
@@ -46,12 +46,12 @@ pub struct Node<A: Acts + Copy> {
     localities: u32,
     profile: Profile,
     serial: u64,
-    accepted: VecDeque<Fit>,
+    accepted: Queue<Fit>,
     running: Vec<Fit>,
     pending: Vec<Pending<A>>,
     asked: u64,
-    desk: VecDeque<Letter>,
-    outgoing: VecDeque<Outgoing>,
+    desk: Queue<Letter>,
+    outgoing: Queue<Outgoing>,
     moves: Moves,
     objects: Objects,
     records: Records<Letter>,
@@ -62,7 +62,6 @@ pub struct Node<A: Acts + Copy> {
 
 impl<A: Acts + Copy> Model for Node<A> {
     ghost use Rattle.std.specs.Prelude.{◌≡◌, ◌<◌, ◌≤◌, ◌-◌, [], min, vec_len, vec_capacity};
-    ghost use Rattle.std.specs.VecDeque.{deque_len, deque_capacity};
     ghost use Rattle.hpx_value.specs.Profiles.{IsValid};
     ghost use Rattle.hpx_node.specs.Locality.{Locality};
 
@@ -91,8 +90,8 @@ impl<A: Acts + Copy> Model for Node<A> {
         taken = n.taken;
         answered = n.answered;
       };
-      spare = min (min (deque_capacity n.accepted - deque_len n.accepted) (deque_capacity n.desk - deque_len n.desk))
-          (min (deque_capacity n.outgoing - deque_len n.outgoing) (min (vec_capacity n.running - vec_len n.running)
+      spare = min (min n.accepted.spare n.desk.spare)
+          (min n.outgoing.spare (min (vec_capacity n.running - vec_len n.running)
           (min (vec_capacity n.pending - vec_len n.pending) (min n.objects.spare (min n.records.spare n.moves.spare)))));
     } };
 
@@ -122,12 +121,12 @@ impl<A: Acts + Copy> Node<A> {
             localities,
             profile,
             serial: 0,
-            accepted: VecDeque::new(alloc),
+            accepted: Queue::new(alloc),
             running: Vec::new(alloc),
             pending: Vec::new(alloc),
             asked: 0,
-            desk: VecDeque::new(alloc),
-            outgoing: VecDeque::new(alloc),
+            desk: Queue::new(alloc),
+            outgoing: Queue::new(alloc),
             moves: Moves::new(alloc),
             objects,
             records: Records::new(alloc, profile, here),

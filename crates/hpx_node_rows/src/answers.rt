@@ -1,11 +1,11 @@
 //! What the pair answers.
 use crate::frames::{kind_in, show};
 use crate::order::{Asked, Order};
-use crate::pair::{Carried, Pair};
-use crate::site::{Seen, Site};
 use hpx_journal::entry::{Event, Reason};
 use hpx_node::parts::{DeskFault, Finished, TakeFault};
 use hpx_parcel::parcel::Why;
+use hpx_stepped::pair::{Carried, Pair};
+use hpx_stepped::site::{Seen, Site};
 use hpx_value::gid::Gid;
 use hpx_value::memory::OutOfMemory;
 use std::alloc::Global;

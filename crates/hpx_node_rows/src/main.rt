@@ -4,36 +4,49 @@
 mod answers;
 mod frames;
 mod order;
-mod pair;
-mod site;
 
-use crate::pair::Pair;
+use hpx_stepped::pair::Pair;
 use hpx_value::memory::OutOfMemory;
 use std::alloc::Global;
 use std::io;
 
+/// The greatest count of a record before the first line that boots.
+const LIMIT: u128 = 4611686018427387904;
+
+/// Boots both localities again.
+fn renew(alloc: Global, pair: &mut Pair, limit: u128) -> Result<(), OutOfMemory> {
+    *pair = Pair::boot(alloc, limit)?;
+    Ok(())
+}
+
 /// Does what a line asks of the pair, and answers.
-fn answer(alloc: Global, pair: &mut Option<Pair>, line: &str) -> Result<String, OutOfMemory> {
+fn answer(alloc: Global, pair: &mut Pair, line: &str) -> Result<String, OutOfMemory> {
     let order = order::read(alloc, line)?;
-    if let Some(limit) = order.boots() {
-        *pair = Some(Pair::boot(alloc, limit)?);
-        return Ok(String::new(alloc));
-    }
-    match pair {
-        Some(pair) => answers::of(alloc, pair, order),
-        None => Ok(String::new(alloc)),
+    match order.boots() {
+        Some(limit) => {
+            renew(alloc, pair, limit)?;
+            Ok(String::new(alloc))
+        }
+        None => answers::of(alloc, pair, order),
     }
 }
 
-fn main(rt: HostRuntime) -> io::Result<()> {
-    let alloc = rt.alloc();
-    let mut pair = None;
+/// Answers each line of the input.
+fn play(rt: &HostRuntime, alloc: Global, pair: &mut Pair) -> io::Result<()> {
     for line in rt.lines(alloc) {
         let line = line?;
-        match answer(alloc, &mut pair, line.as_str()) {
+        match answer(alloc, pair, line.as_str()) {
             Ok(text) => println!(rt; "{}{}", line.as_str(), text.as_str())?,
             Err(_) => println!(rt; "{}: out of memory", line.as_str())?,
         }
     }
     Ok(())
+}
+
+fn main(rt: HostRuntime) -> io::Result<()> {
+    let alloc = rt.alloc();
+    match Pair::boot(alloc, LIMIT) {
+        Ok(mut pair) => play(&rt, alloc, &mut pair),
+        Err(_) => println!(rt; "out of memory"),
+    }
 }

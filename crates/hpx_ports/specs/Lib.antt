@@ -5,6 +5,7 @@ pub mod Plans
 pub mod Supplies
 pub mod Holdings
 pub mod Frames
+pub mod Heard
 pub mod Orders
 pub mod Carriage
 pub mod Counted

@@ -1,6 +1,7 @@
 ghost use Rattle.std.specs.Prelude.{ℕ, List};
 ghost use Rattle.std.specs.declared.option.Option.{Option};
 ghost use Rattle.hpx_ports.specs.declared.fabric.Wire.{Wire};
+ghost use Rattle.hpx_ports.specs.declared.link.Latest.{Latest};
 
 use crate::fault::FabricFault;
 use hpx_value::items::Bytes;
@@ -20,9 +21,13 @@ pub trait Fabric: Send {
     ghost use Rattle.hpx_ports.specs.Faults.{Rose};
     ghost use Rattle.hpx_ports.specs.Told.{followed};
     ghost use Rattle.hpx_ports.specs.Frames.{Delivers, events_of};
+    ghost use Rattle.hpx_ports.specs.Heard.{heard_of};
 
     /// How often it has failed. The count never falls, and stands still at `2^64 - 1`.
     ghost faults: { Self → ℕ };
+
+    /// What the last delivery answered.
+    ghost latest: { Self → Latest };
 
     /// The frames in flight, oldest first, where it tells: where each goes, and its bytes.
     ghost flight: { Self → Option (List (ℕ × List ℕ)) };
@@ -37,6 +42,7 @@ pub trait Fabric: Send {
 
         ensures flight_err { OnErr result (flight self.new ≡ flight self.old) }
         ensures trace_err { OnErr result (trace self.new ≡ trace self.old) }
+        ensures latest { latest self.new ≡ latest self.old }
         ensures cause { IsErrOf result FabricFault.Failed → Rose (faults self.old) (faults self.new) }
         ensures stands { (IsErrOf result FabricFault.Failed → ⊥) → faults self.new ≡ faults self.old }
         ensures never_falls { faults self.old ≤ faults self.new };
@@ -50,6 +56,7 @@ pub trait Fabric: Send {
         ensures memory { IsErrOf result FabricFault.OutOfMemory → flight self.old ≢ Some [] }
         ensures flight_err { OnErr result (flight self.new ≡ flight self.old) }
         ensures trace_err { OnErr result (trace self.new ≡ trace self.old) }
+        ensures latest { latest self.new ≡ heard_of result }
         ensures cause { IsErrOf result FabricFault.Failed → Rose (faults self.old) (faults self.new) }
         ensures stands { (IsErrOf result FabricFault.Failed → ⊥) → faults self.new ≡ faults self.old }
         ensures never_falls { faults self.old ≤ faults self.new };

@@ -1,12 +1,15 @@
 ghost use Rattle.std.specs.Prelude.{◌≡◌, ◌≢◌, ◌≤◌, ◌↔◌, ◌∷◌, ◌++◌, [], Some, IsTrue, length, remove, slice_get, IfOk, IsOk, OnOk, OnErr, IsErrOf, IsOkUnless};
 ghost use Rattle.hpx_ports.specs.Faults.{Rose, raised};
 ghost use Rattle.hpx_ports.specs.Frames.{Delivers, events_of};
+ghost use Rattle.hpx_ports.specs.Heard.{heard_of};
 ghost use Rattle.hpx_ports.specs.Orders.{next_place, order_after};
 ghost use Rattle.hpx_ports.specs.Plans.{fails_next, after_call};
 
 use crate::fabric::{Fabric, Wire};
 use crate::fault::{FabricFault, raise};
 use crate::flight::Flight;
+use crate::heard::Heard;
+use crate::link::Latest;
 use crate::order::Order;
 use crate::plan::Plan;
 use hpx_value::exact::Exact;
@@ -18,23 +21,30 @@ use std::marker::Model;
 #[derive(Drop)]
 pub struct SureFabric {
     flight: Flight,
+    heard: Heard,
 }
 
 impl Model for SureFabric {
-    ghost use Rattle.hpx_ports.specs.Carriage.{Carried};
+    ghost use Rattle.hpx_ports.specs.Carriage.{Delivery};
 
-    ghost Value = { Carried };
+    ghost Value = { Delivery };
 
-    ghost view = { λ f. f.flight };
+    ghost view = { λ f. record {
+      flight = f.flight.flight;
+      trace = f.flight.trace;
+      order = f.flight.order;
+      latest = f.heard;
+    } };
 }
 
 impl SureFabric {
     /// No frame is in flight, and nothing has happened.
     pub fn new(alloc: Global, order: Order) -> SureFabric
-        ensures { result ≡ record { flight = []; trace = []; order = order } }
+        ensures { result ≡ record { flight = []; trace = []; order = order; latest = Latest.Never } }
     {
         SureFabric {
             flight: Flight::new(alloc, order),
+            heard: Heard::never(),
         }
     }
 
@@ -50,6 +60,8 @@ impl Fabric for SureFabric {
     ghost use Rattle.std.specs.Prelude.{Some};
 
     ghost faults = { λ f. 0 };
+
+    ghost latest = { λ f. f.latest };
 
     ghost flight = { λ f. Some f.flight };
 
@@ -75,11 +87,14 @@ impl Fabric for SureFabric {
           flight = remove self.old.flight (next_place self.old.order (length self.old.flight));
           trace = self.old.trace ++ events_of got;
           order = order_after self.old.order got;
+          latest = heard_of result;
         }) }
 
         ensures flight { IfOk result (λ got. Delivers (Some self.old.flight) (Some self.new.flight) got) }
     {
-        Ok(self.flight.deliver())
+        let got = self.flight.deliver();
+        self.heard = Heard::of(&got);
+        Ok(got)
     }
 }
 
@@ -88,6 +103,7 @@ impl Fabric for SureFabric {
 pub struct MemFabric {
     alloc: Global,
     flight: Flight,
+    heard: Heard,
     trace: Vec<Wire>,
     sends: Plan,
     delivers: Plan,
@@ -103,6 +119,7 @@ impl Model for MemFabric {
       flight = f.flight.flight;
       trace = f.trace.items;
       order = f.flight.order;
+      latest = f.heard;
       sends = f.sends;
       delivers = f.delivers;
       faults = f.faults;
@@ -117,6 +134,7 @@ impl MemFabric {
           flight = [];
           trace = [];
           order = order;
+          latest = Latest.Never;
           sends = record { numbers = sends; calls = 0 };
           delivers = record { numbers = delivers; calls = 0 };
           faults = 0;
@@ -125,6 +143,7 @@ impl MemFabric {
         MemFabric {
             alloc,
             flight: Flight::new(alloc, order),
+            heard: Heard::never(),
             trace: Vec::new(alloc),
             sends: Plan {
                 numbers: sends,
@@ -164,6 +183,8 @@ impl Fabric for MemFabric {
     ghost use Rattle.std.specs.Prelude.{Some};
 
     ghost faults = { λ f. f.faults };
+
+    ghost latest = { λ f. f.latest };
 
     ghost flight = { λ f. Some f.flight };
 
@@ -208,13 +229,16 @@ impl Fabric for MemFabric {
           flight = remove self.old.flight (next_place self.old.order (length self.old.flight));
           trace = self.old.trace ++ events_of got;
           order = order_after self.old.order got;
+          latest = heard_of result;
           delivers = after_call self.old.delivers;
         }) }
         ensures failed { IsErrOf result FabricFault.Failed → self.new ≡ record self.old {
+          latest = Latest.Fault;
           delivers = after_call self.old.delivers;
           faults = raised self.old.faults;
         } }
         ensures no_memory { IsErrOf result FabricFault.OutOfMemory → self.new ≡ record self.old {
+          latest = Latest.Fault;
           delivers = after_call self.old.delivers;
         } }
 
@@ -225,16 +249,18 @@ impl Fabric for MemFabric {
         ensures cause { IsErrOf result FabricFault.Failed → Rose self.old.faults self.new.faults }
         ensures never_falls { self.old.faults ≤ self.new.faults }
     {
+        self.heard = Heard::fault();
         if self.delivers.next_fails() {
             self.faults = raise(self.faults);
             return Err(FabricFault::Failed);
         }
-        let Some((to, bytes)) = self.flight.next() else {
-            return Ok(self.flight.deliver());
-        };
-        let (to, bytes) = (*to, bytes.duplicate(self.alloc)?);
-        self.trace.reserve(1)?;
-        self.trace.push_reserved(Wire::Delivered { to, bytes });
-        Ok(self.flight.deliver())
+        if let Some((to, bytes)) = self.flight.next() {
+            let (to, bytes) = (*to, bytes.duplicate(self.alloc)?);
+            self.trace.reserve(1)?;
+            self.trace.push_reserved(Wire::Delivered { to, bytes });
+        }
+        let got = self.flight.deliver();
+        self.heard = Heard::of(&got);
+        Ok(got)
     }
 }

@@ -1,6 +1,7 @@
 ghost use Rattle.std.specs.Prelude.{◌≡◌, ◌≢◌, ◌⊎◌, [], Some, None, IfSome, ℕ, codes};
 ghost use Rattle.std.specs.Process.{exit_status};
 ghost use Rattle.hpx_options.specs.Texts.{bad_word_text};
+ghost use Rattle.hpx_top.specs.Breaches.{TellsBreach};
 ghost use Rattle.hpx_top.specs.Printed.{HasTold};
 ghost use Rattle.hpx_top.specs.Runs.{ports_of, HasCause, NothingFailed, Says};
 ghost use Rattle.hpx_top.specs.Statuses.{IsStatus, status_line};
@@ -13,6 +14,7 @@ use hpx_ports::sink::{Sink, write_all};
 use hpx_ports::source::Source;
 use hpx_ports::words::{Words, all_words};
 use hpx_top::acts::AllActs;
+use hpx_top::breach::Breach;
 use hpx_top::run::run;
 use hpx_top::task::Notice;
 use hpx_value::memory::OutOfMemory;
@@ -25,13 +27,14 @@ use std::thread::Threads;
 /// The status where there is no memory for the words.
 const OUT_OF_MEMORY: u8 = 6;
 
-/// How the program ended: the status, what its process ends with, the world where one was booted, the fabric, and the cuts of the
-/// session, as `hpx_top::run::End` has them.
+/// How the program ended: the status, what its process ends with, the world where one was booted, the fault of the fabric, the fabric, and
+/// the cuts of the session, as `hpx_top::run::End` has them.
 #[derive(Drop)]
 pub struct Ended<F: Fabric> {
     pub status: u8,
     pub code: ExitCode,
     pub world: Option<World<AllActs>>,
+    pub fault: Option<Breach>,
     pub fabric: F,
     pub cuts: Vec<u64>,
 }
@@ -59,9 +62,6 @@ pub fn program<W: Words, S: Source, K: Sink, E: Sink, F: Fabric, R: Threads + Wa
     fabric: F,
     gate: &G,
 ) -> Ended<F>
-    requires flight { F.flight fabric ≡ Some [] }
-    requires trace { F.trace fabric ≡ Some [] }
-
     ensures code { exit_status result.code ≡ result.status }
     ensures refused { (words : _) (place : ℕ) → W.words given.now ≡ Some words → bad_word words ≡ Some place → (result.world ≡ None)
         × ((result.status ≡ 6) ⊎ ((result.status ≡ 1) × Says (bad_word_text place) (record { text = E.held err.old; faults = E.faults err.old })
@@ -70,7 +70,8 @@ pub fn program<W: Words, S: Source, K: Sink, E: Sink, F: Fabric, R: Threads + Wa
     ensures says { result.status ≢ 1 → Says (status_line result.status) (record { text = E.held err.old; faults = E.faults err.old })
         (record { text = E.held err.new; faults = E.faults err.new }) }
     ensures silent { result.status ≡ 0 → err.new ≡ err.old }
-    ensures no_other { IsStatus result.status }
+    ensures no_other { F.flight fabric ≡ Some [] → F.trace fabric ≡ Some [] → IsStatus result.status }
+    ensures fault { TellsBreach result.status result.fault result.world }
     ensures none { result.world ≡ None → (source.new ≡ source.old) × (result.fabric ≡ fabric) }
     ensures uncut { result.world ≡ None → result.cuts.items ≡ [] }
     ensures untouched { (words : _) → W.words given.now ≡ Some words → notice_in words ≡ None → result.world ≡ None →
@@ -82,7 +83,7 @@ pub fn program<W: Words, S: Source, K: Sink, E: Sink, F: Fabric, R: Threads + Wa
         HasCause result.status result.world x z }
     ensures ends_well { let x = ports_of (S.left source.old) (S.taken source.old) (K.held sink.old) (S.faults source.old) (K.faults sink.old) (F.faults fabric) in
         let z = ports_of (S.left source.new) (S.taken source.new) (K.held sink.new) (S.faults source.new) (K.faults sink.new) (F.faults result.fabric) in
-        NothingFailed result.world x z → (result.status ≡ 0) ⊎ (result.status ≡ 1) ⊎ (result.status ≡ 6) }
+        F.flight fabric ≡ Some [] → F.trace fabric ≡ Some [] → NothingFailed result.world x z → (result.status ≡ 0) ⊎ (result.status ≡ 1) ⊎ (result.status ≡ 6) }
     ensures did { let x = ports_of (S.left source.old) (S.taken source.old) (K.held sink.old) (S.faults source.old) (K.faults sink.old) (F.faults fabric) in
         let z = ports_of (S.left source.new) (S.taken source.new) (K.held sink.new) (S.faults source.new) (K.faults sink.new) (F.faults result.fabric) in
         IfSome result.world (λ w. HasRunAsAsked (W.words given.now) result.status result.cuts.items w x z) }
@@ -94,6 +95,7 @@ pub fn program<W: Words, S: Source, K: Sink, E: Sink, F: Fabric, R: Threads + Wa
                 status: end.status,
                 code: ExitCode::from(end.status),
                 world: end.world,
+                fault: end.fault,
                 fabric: end.fabric,
                 cuts: end.cuts,
             }
@@ -104,6 +106,7 @@ pub fn program<W: Words, S: Source, K: Sink, E: Sink, F: Fabric, R: Threads + Wa
                 status: OUT_OF_MEMORY,
                 code: ExitCode::from(OUT_OF_MEMORY),
                 world: None,
+                fault: None,
                 fabric,
                 cuts: Vec::new(alloc),
             }

@@ -1,5 +1,6 @@
 //! What stands at boot, what is made, what is found and counted, what is far, and what is written of a hand.
-ghost use Rattle.std.specs.Prelude.{IfOk};
+ghost use Rattle.std.specs.Prelude.{◌≡◌, ◌≤◌, IfOk};
+ghost use Rattle.hpx_value.specs.Ids.{bare_id};
 ghost use Rattle.hpx_parcel.specs.Parcels.{IsParcel};
 
 use hpx_journal::entry::{Event, Name};
@@ -8,11 +9,14 @@ use hpx_parcel::parcel::Parcel;
 use hpx_parcel::read::decode;
 use hpx_tables::births::births;
 use hpx_tables::boot::roots;
-use hpx_tables::credit::{credit_in, held_in_parcel, owed_in_parcel};
+use hpx_tables::credit::{
+    credit_in, held_in_letters, held_in_parcel, held_in_states, owed_in_parcel,
+};
 use hpx_tables::find::{answered_by, first_free, target};
-use hpx_tables::kept::{Fit, Kept, bare_state, named};
+use hpx_tables::kept::{Fit, Kept, Letter, bare_state, named};
 use hpx_tables::objects::Objects;
 use hpx_tables::pending::Pending;
+use hpx_tables::queue::Queue;
 use hpx_tables::splits::{push_asks, push_first_splits};
 use hpx_tables::strange::{is_far, object_of};
 use hpx_trial::trial::Trial;
@@ -21,7 +25,6 @@ use hpx_value::items::Items;
 use hpx_value::outcome::Make;
 use hpx_value::value::{Act, Message, State, Value};
 use std::alloc::Global;
-use std::collections::VecDeque;
 use std::process::Abort;
 use std::test::Fail;
 
@@ -145,6 +148,81 @@ fn credit_is_held_by_actions_and_owed_by_answers(rt: HostRuntime) -> Result<(), 
 }
 
 #[test]
+fn the_credit_in_a_queue_is_counted_as_messages_come_and_go(rt: HostRuntime) -> Result<(), Fail> {
+    let alloc = rt.alloc();
+    let mut desk = Queue::new(alloc);
+    let steps = [
+        (Some(RETURN), 0),
+        (Some(ADD), 128),
+        (Some(ADD), 256),
+        (None, 256),
+        (None, 128),
+        (Some(GIVE), 128),
+        (None, 0),
+        (None, 0),
+        (Some(ADD), 128),
+    ];
+    for (frame, held) in steps {
+        match frame {
+            Some(frame) => {
+                desk.reserve(1)?;
+                desk.push_back_reserved(Letter::new(parcel(alloc, frame)?));
+            }
+            None => {
+                let _ = desk.pop_front();
+            }
+        }
+        assert!(rt; held_in_letters(&desk, number()) == held);
+        assert!(rt; desk.lacks(number()) == (held == 0));
+    }
+    Ok(())
+}
+
+/// An object whose state names the number, with credit of a log.
+fn naming(alloc: Global, log: u8) -> Result<Kept, Fail>
+    requires { log ≤ 31 }
+    ensures { IfOk result (λ x. x.object ≡ bare_id 1 16 2) }
+{
+    let mut values = Items::new(alloc);
+    values.push(Value::Ref(0))?;
+    let mut ids = Items::new(alloc);
+    ids.push(number().with_log(log))?;
+    let state = State {
+        drawn: 0,
+        values,
+        conts: Items::new(alloc),
+        ids,
+    };
+    Ok(Kept::new(Gid::new(1, 16, 2), state))
+}
+
+/// How much credit of the number states hold, and whether it is known at once that they hold none.
+fn credit_of_number(objects: &Objects) -> (u128, bool) {
+    (held_in_states(objects, number()), objects.lacks(number()))
+}
+
+/// Takes the first object out, if there is one.
+fn take_first(objects: &mut Objects) {
+    if objects.len() > 0 {
+        let _ = objects.take(0);
+    }
+}
+
+#[test]
+fn the_credit_in_states_is_counted_as_these_change(rt: HostRuntime) -> Result<(), Fail> {
+    let alloc = rt.alloc();
+    let mut objects = Objects::new(alloc);
+    assert!(rt; credit_of_number(&objects) == (0, true));
+    objects.push(naming(alloc, 7)?)?;
+    assert!(rt; credit_of_number(&objects) == (128, false));
+    objects.merge(0, number(), 7);
+    assert!(rt; credit_of_number(&objects) == (256, false));
+    take_first(&mut objects);
+    assert!(rt; credit_of_number(&objects) == (0, true));
+    Ok(())
+}
+
+#[test]
 fn a_message_for_locality_1_is_far_from_one_alone(rt: HostRuntime) -> Result<(), Fail> {
     let alloc = rt.alloc();
     for frame in [ADD, RETURN, GIVE, FREE] {
@@ -191,9 +269,10 @@ fn found(
     running: &[Fit],
     objects: &Objects,
 ) -> Result<Option<(usize, usize)>, Fail> {
-    let mut accepted = VecDeque::new(alloc);
+    let mut accepted = Queue::new(alloc);
     if let Parcel::Apply(add) = parcel(alloc, ADD)? {
-        accepted.push_back(Fit::new(add))?;
+        accepted.reserve(1)?;
+        accepted.push_back_reserved(Fit::new(add));
     }
     let pending: Vec<Pending<Trial>> = Vec::new(alloc);
     Ok(first_free(&accepted, running, pending.as_slice(), objects))

@@ -118,4 +118,4 @@ shared_sync σ β κ μ A F E G g h e a y f s v records =
     let lock : IsSync (as_row (shr_ref_field σ (Mutex.the_row (Kept.the_row β κ μ A F E g h e)) tt)) =
     as_row_sync (shr_ref_field σ (Mutex.the_row (Kept.the_row β κ μ A F E g h e)) tt)
     (shr_sync σ.mir σ.lft (Mutex.the_row (Kept.the_row β κ μ A F E g h e)) (mutex_sync (Kept.the_row β κ μ A F E g h e) kept)) in
-    declared_sync (Shared.the_type σ β κ μ A F E G g h e) (lock, (acts_sync A y, (gate_sync σ G v, (search (sendable, crosses) depth 400 fits 5000 parts 0, tt))))
+    declared_sync (Shared.the_type σ β κ μ A F E G g h e) (lock, (acts_sync A y, (gate_sync σ G v, (search (sendable, crosses) depth 400 fits 5000 parts 0, (search (sendable, crosses) depth 400 fits 5000 parts 0, tt)))))

@@ -6,7 +6,9 @@ use hpx_value::acts::Job;
 pub enum Found {
     /// A job that its hand has no memory for.
     Job(Job),
-    /// Something was to be done, and is.
+    /// Several jobs, which lie on its hand, where others may take them.
+    Jobs,
+    /// Something was to be done, and is; or one job, which lies on its hand.
     Moved,
     /// Nothing can be done before a job is taken back.
     Nothing,

@@ -1,7 +1,7 @@
 //! What lies under the lock.
 ghost use Rattle.hpx_site.specs.Held.{Held};
 ghost use Rattle.hpx_site.specs.Seen.{Seen, seen, nowhere};
-ghost use Rattle.std.specs.Prelude.{◌≡◌, ◌≤◌, ◌+◌, ℕ, IsTrue, length};
+ghost use Rattle.std.specs.Prelude.{◌≡◌, ◌≤◌, ◌+◌, [], ℕ, IsTrue, length};
 ghost use Rattle.hpx_pool.specs.Hands.{frame_of, put_of};
 ghost use Rattle.hpx_world.specs.Refusals.{FeedsNoLine, IsAsked};
 
@@ -14,8 +14,11 @@ use hpx_world::turns::{Choice, Turned, WorldFault};
 use std::alloc::Global;
 use std::marker::{Brand, Model, PhantomData};
 
-/// How many jobs a worker takes out at most while it has the lock.
-const MOST: u32 = 32;
+/// How many jobs a worker takes out at most while it has the lock, and how many it brings back.
+pub(crate) const MOST: u32 = 32;
+
+/// How many turns by which messages go on a worker makes at most while it has the lock.
+const TURNS: u32 = 128;
 
 /// What was seen of a site when the workers began, and which world and which fabric were lent. Each call of them picks it.
 pub trait Past {
@@ -146,6 +149,15 @@ impl<'b, 'w, 'f, A: Acts + Copy, F: Fabric, E: Past> Kept<'b, 'w, 'f, A, F, E> {
         self.turn(alloc, Choice::Finish(done));
     }
 
+    /// Takes back what was run, the last first.
+    fn take_back_all(&mut self, alloc: Global, ran: &mut Vec<Done<A>>)
+        ensures { ran.new.items ≡ [] }
+    {
+        while let Some(done) = ran.pop() {
+            self.take_back(alloc, done);
+        }
+    }
+
     /// The world stands still, as there was no memory to run a job.
     pub(crate) fn stand_still(&mut self, job: Job) {
         if self.stop.is_none() {
@@ -173,6 +185,16 @@ impl<'b, 'w, 'f, A: Acts + Copy, F: Fabric, E: Past> Kept<'b, 'w, 'f, A, F, E> {
         false
     }
 
+    /// Localities tend to what they have of their own. False where none has anything.
+    fn clear(&mut self, alloc: Global) -> bool {
+        for cleared in 0..TURNS {
+            if !self.clear_one(alloc) {
+                return cleared > 0;
+            }
+        }
+        true
+    }
+
     /// The first locality with a message to another sends it. False where none has one.
     fn send_one(&mut self, alloc: Global) -> bool {
         for k in 0..self.localities() {
@@ -183,9 +205,24 @@ impl<'b, 'w, 'f, A: Acts + Copy, F: Fabric, E: Past> Kept<'b, 'w, 'f, A, F, E> {
         false
     }
 
-    /// A message goes to another locality, or a frame is accepted.
-    fn carry_one(&mut self, alloc: Global) -> Found {
-        if self.send_one(alloc) || self.moves(alloc, Choice::Take) {
+    /// A message goes to another locality, or a frame is accepted. False where neither can be.
+    fn carry_one(&mut self, alloc: Global) -> bool {
+        self.send_one(alloc) || self.moves(alloc, Choice::Take)
+    }
+
+    /// Messages go to other localities, and frames are accepted. False where neither can be.
+    fn carry(&mut self, alloc: Global) -> bool {
+        for carried in 0..TURNS {
+            if !self.carry_one(alloc) {
+                return carried > 0;
+            }
+        }
+        true
+    }
+
+    /// What was found where no job is ready: something moved, or nothing did, and there is something to wait for or not.
+    fn without_jobs(&self, moved: bool) -> Found {
+        if moved {
             Found::Moved
         } else if self.waits_for_none() {
             Found::Over
@@ -215,35 +252,52 @@ impl<'b, 'w, 'f, A: Acts + Copy, F: Fabric, E: Past> Kept<'b, 'w, 'f, A, F, E> {
     }
 
     /// Takes jobs out, the least locality first, and puts them on a hand. Answers one that the hand has no memory for, or
-    /// whether it took any.
+    /// whether it took none, one or several.
     fn fill(&mut self, alloc: Global, hand: &mut Hand) -> Found
         ensures frame { frame_of hand.new ≡ frame_of hand.old }
         ensures few { length (put_of hand.new) ≤ length (put_of hand.old) + 32 }
     {
         let mut found = Found::Nothing;
-        for _taken in 0..MOST {
+        for taken in 0..MOST {
             let Some(job) = self.fire_first(alloc) else {
                 return found;
             };
             if let Err(job) = hand.put(job) {
                 return Found::Job(job);
             }
-            found = Found::Moved;
+            found = if taken == 0 {
+                Found::Moved
+            } else {
+                Found::Jobs
+            };
         }
         found
     }
 
-    /// What there is to do. What a locality has of its own to tend to goes first; where none has anything, jobs are put on the hand,
-    /// all that are ready, up to 32; where none is ready, a message goes to another locality.
+    /// What there is to do. First what localities have of their own is tended to, and messages go on; then jobs are put on the hand,
+    /// all that are ready, up to 32.
     pub fn look(&mut self, alloc: Global, hand: &mut Hand) -> Found
         ensures frame { frame_of hand.new ≡ frame_of hand.old }
         ensures few { length (put_of hand.new) ≤ length (put_of hand.old) + 32 }
     {
-        if self.clear_one(alloc) {
-            return Found::Moved;
-        }
+        let cleared = self.clear(alloc);
+        let carried = self.carry(alloc);
         match self.fill(alloc, hand) {
-            Found::Nothing => self.carry_one(alloc),
+            Found::Nothing => self.without_jobs(cleared || carried),
+            found => found,
+        }
+    }
+
+    /// Takes back what a worker has run, the last first, and looks what there is to do.
+    pub fn exchange(&mut self, alloc: Global, hand: &mut Hand, ran: &mut Vec<Done<A>>) -> Found
+        ensures frame { frame_of hand.new ≡ frame_of hand.old }
+        ensures few { length (put_of hand.new) ≤ length (put_of hand.old) + 32 }
+        ensures none { ran.new.items ≡ [] }
+    {
+        let brings = !ran.is_empty();
+        self.take_back_all(alloc, ran);
+        match self.look(alloc, hand) {
+            Found::Nothing if brings => Found::Moved,
             found => found,
         }
     }

@@ -11,7 +11,7 @@ ghost use Rattle.hpx_agas.specs.contracts.records.Records as records_type;
 ghost use Rattle.hpx_tables.specs.contracts.kept.Letter as letter_type;
 
 use crate::found::Found;
-use crate::kept::{Kept, Past};
+use crate::kept::{Kept, MOST, Past};
 use crate::site::{Lent, Site};
 use crossbeam_utils::Backoff;
 use hpx_agas::records::Records;
@@ -25,7 +25,7 @@ use hpx_world::turns::WorldFault;
 use hpx_world::world::World;
 use std::alloc::Global;
 use std::marker::Brand;
-use std::sync::{Mutex, Wait};
+use std::sync::{Condvar, Mutex, Wait};
 use std::thread;
 use std::thread::Threads;
 
@@ -35,13 +35,14 @@ const LAST: usize = 63;
 /// How many steps the caller makes alone before there are workers.
 const ALONE: u32 = 64;
 
-/// What the workers share.
+/// What the workers share. Those that wait are told where jobs come or all is over (`news`).
 #[derive(Drop)]
 struct Shared<'s, 'b, 'w, 'f, A: Acts + Copy, F: Fabric, E: Past, G> {
     lock: &'s Mutex<Kept<'b, 'w, 'f, A, F, E>>,
     acts: A,
     gate: &'s G,
     alloc: Global,
+    news: &'s Condvar,
 }
 
 impl<'s, 'b, 'w, 'f, A: Acts + Copy, F: Fabric, E: Past, G: Gate> Shared<
@@ -54,7 +55,7 @@ impl<'s, 'b, 'w, 'f, A: Acts + Copy, F: Fabric, E: Past, G: Gate> Shared<
     E,
     G,
 > {
-    /// Runs a job with no lock held, and hands it in.
+    /// Runs a job with no lock held, and brings it back alone.
     fn run<R: Wait>(&self, rt: &R, number: u32, job: Job) {
         self.gate.pass(number, job.action.serial);
         match Done::compute(self.alloc, &self.acts, job) {
@@ -63,29 +64,60 @@ impl<'s, 'b, 'w, 'f, A: Acts + Copy, F: Fabric, E: Past, G: Gate> Shared<
         }
     }
 
-    /// What there is to do. The lock is held meanwhile, and no longer.
-    fn look<R: Wait>(&self, rt: &R, hand: &mut Hand) -> Found
+    /// Runs jobs with no lock held, until it gets none, or so many are to be brought back.
+    fn run_some<R: Wait>(&self, rt: &R, number: u32, hand: &mut Hand, ran: &mut Vec<Done<A>>)
         ensures { frame_of hand.new ≡ frame_of hand.old }
     {
-        self.lock.lock(rt).look(self.alloc, hand)
+        while ran.len() < ran.capacity() {
+            let Some(job) = hand.get(rt) else {
+                return;
+            };
+            self.gate.pass(number, job.action.serial);
+            match Done::compute(self.alloc, &self.acts, job) {
+                Ok(done) => ran.push_reserved(done),
+                Err(job) => return self.lock.lock(rt).stand_still(job),
+            }
+        }
     }
 
-    /// Runs jobs until there is nothing to wait for. Where it finds nothing to do it waits a little, longer each time, and then yields.
+    /// Brings back what was run, and looks what there is to do, while it has the lock once. Where there is nothing to do before
+    /// another worker brings jobs, a worker that is `patient` sleeps until others may take jobs, or all is over.
+    fn bring<R: Wait>(
+        &self,
+        rt: &R,
+        hand: &mut Hand,
+        ran: &mut Vec<Done<A>>,
+        patient: bool,
+    ) -> Found
+        ensures { frame_of hand.new ≡ frame_of hand.old }
+    {
+        let mut kept = self.lock.lock(rt);
+        let found = kept.exchange(self.alloc, hand, ran);
+        match &found {
+            Found::Nothing if patient => drop(self.news.wait(rt, kept)),
+            Found::Jobs | Found::Over => {
+                drop(kept);
+                self.news.notify_all();
+            }
+            _ => drop(kept),
+        }
+        found
+    }
+
+    /// Runs jobs until there is nothing to wait for. Where it finds nothing to do it waits a little, longer each time, then yields,
+    /// and then sleeps.
     fn work<R: Wait>(&self, rt: &R, number: u32, hand: &mut Hand)
         ensures { frame_of hand.new ≡ frame_of hand.old }
     {
+        let Ok(mut ran) = Vec::with_capacity(self.alloc, MOST as usize) else {
+            return;
+        };
         let backoff = Backoff::new();
         for _ in rt.forever() {
-            let found = match hand.get(rt) {
-                Some(job) => Found::Job(job),
-                None => self.look(rt, hand),
-            };
-            match found {
-                Found::Job(job) => {
-                    self.run(rt, number, job);
-                    backoff.reset();
-                }
-                Found::Moved => backoff.reset(),
+            self.run_some(rt, number, hand, &mut ran);
+            match self.bring(rt, hand, &mut ran, backoff.is_completed()) {
+                Found::Job(job) => self.run(rt, number, job),
+                Found::Jobs | Found::Moved => backoff.reset(),
                 Found::Nothing => backoff.snooze(),
                 Found::Over => return,
             }
@@ -220,11 +252,13 @@ fn work_on<
 {
     let acts = *lent.world.acts();
     let lock = Mutex::new(Kept::<A, F, E>::new(lent));
+    let news = Condvar::new();
     let shared = Shared {
         lock: &lock,
         acts,
         gate,
         alloc,
+        news: &news,
     };
     work_all(rt, &shared, all.as_mut_slice());
     let mut kept = lock.into_inner();

@@ -10,6 +10,7 @@ use Rattle.hpx_steps.specs.Homes.{HasHomes, IsOwnMail, WaitsWell, WasStranded}
 use Rattle.hpx_steps.specs.Onward.{Carries, HadToGo, HaveGone, WaitsAt}
 use Rattle.hpx_steps.specs.Steps.{GoesOut, Settle, Settles}
 use Rattle.hpx_value.specs.Values.{named}
+use Rattle.hpx_steps.specs.Sound.{IsPaid}
 
 -- a message brings an action that has no place to go, or none
 abbrev pub Strands : Tables → Parcel → Type 0
@@ -29,16 +30,16 @@ pub data Adds (r : Rules) (s s' : Turn) : List Entry → Type 0 where
 -- what was on its way is so still, and had to go there
 module _ (r : Rules) (s s' : Turn) (entries entries' : List Entry) (h : HasHomes r s (part s.tables.here entries)) (k : Homes s s')
     (places : HasPlaces s'.tables.here s'.tables.births s'.tables.objects s'.tables.records s'.tables.leaving) (tidy : IsTidy s') (here : s'.tables.here ≡ s.tables.here)
-    (rules : AreRules r s'.tables) (keeps : StandsFor r (view s') entries') (flowing : IsFlowing r s' (part s'.tables.here entries')) where
+    (rules : AreRules r s'.tables) (keeps : StandsFor r (view s') entries') (flowing : IsFlowing r s' (part s'.tables.here entries')) (paid : IsPaid r s' (part s'.tables.here entries')) where
   going_then : (more : List Entry) → Adds r s s' more → part s'.tables.here entries' ≡ part s.tables.here entries ++ more → (x : Outgoing) (act : Act) → Among x s'.tables.outgoing
       → Carries act x.parcel → HadToGo r s'.tables.here x.to (part s'.tables.here entries') act
   going_then more adds grown x act m c = elim (k.going x act m c) [
     | inl was ↦ each more adds grown (h.going x act was c)
-    | inr now ↦ had_now r s' entries' rules keeps places flowing tidy x act c m now
+    | inr now ↦ had_now r s' entries' rules keeps places flowing tidy paid x act c m now
   ]
     where
       waits : WaitsAt r s'.tables.here (part s'.tables.here entries') act
-      waits = waits_now r s' entries' rules keeps places flowing tidy x act c m
+      waits = waits_now r s' entries' rules keeps places flowing tidy paid x act c m
 
       each : (more : List Entry) → Adds r s s' more → part s'.tables.here entries' ≡ part s.tables.here entries ++ more → HadToGo r s.tables.here x.to (part s.tables.here entries) act
           → HadToGo r s'.tables.here x.to (part s'.tables.here entries') act
@@ -59,8 +60,8 @@ module _ (r : Rules) (s s' : Turn) (entries entries' : List Entry) (h : HasHomes
 pub homes_then : (r : Rules) (s s' : Turn) (entries entries' more : List Entry) → Adds r s s' more → part s'.tables.here entries' ≡ part s.tables.here entries ++ more
     → s'.tables.here ≡ s.tables.here → HasHomes r s (part s.tables.here entries) → Homes s s'
     → HasPlaces s'.tables.here s'.tables.births s'.tables.objects s'.tables.records s'.tables.leaving → IsTidy s' → AreRules r s'.tables → StandsFor r (view s') entries'
-    → IsFlowing r s' (part s'.tables.here entries') → HasHomes r s' (part s'.tables.here entries')
-homes_then r s s' entries entries' more adds grown here h k places tidy rules keeps flowing = record {
+    → IsFlowing r s' (part s'.tables.here entries') → IsPaid r s' (part s'.tables.here entries') → HasHomes r s' (part s'.tables.here entries')
+homes_then r s s' entries entries' more adds grown here h k places tidy rules keeps flowing paid = record {
   waits = k.waits;
   own = λ p act brings is. elim (k.own p is) [
     | inl was ↦
@@ -74,8 +75,8 @@ homes_then r s s' entries entries' more adds grown here h k places tidy rules ke
         })
     | inr now ↦ stranded_now r s' entries' rules keeps places.single flowing p act brings is (now act brings)
   ];
-  going = going_then r s s' entries entries' h k places tidy here rules keeps flowing more adds grown;
-  gone = gone_then r s s' entries entries' h k places tidy here rules keeps flowing more adds grown;
+  going = going_then r s s' entries entries' h k places tidy here rules keeps flowing paid more adds grown;
+  gone = gone_then r s s' entries entries' h k places tidy here rules keeps flowing paid more adds grown;
 }
 
 -- ---- messages that carry no action to its object

@@ -7,7 +7,9 @@ use Rattle.hpx_steps.proofs.Changes.{among_either, among_left, among_right}
 use Rattle.hpx_steps.proofs.Puts.{as_parcel, move_to-bare, none_moving, not_home, or_parts, remade_own, target-bare, target_big, to_same, way_goes}
 use Rattle.hpx_steps.proofs.Records.{found_counted}
 use Rattle.hpx_steps.proofs.Stranded.{among_flat, none_stands, seen_waits, stands_so}
-use Rattle.hpx_steps.specs.Onward.{Carries, GoesOn, HadToGo, HaveGone, IsAway, IsRecordedAt, MovesFrom, WaitsAt, WaitsOn}
+use Rattle.hpx_steps.specs.Onward.{Carries, GoesOn, HadToGo, HaveGone, IsAway, IsRecordedAt, IsToLeave, MovesFrom, WaitsAt, WaitsOn}
+use Rattle.hpx_steps.specs.Rows.{GosOf, causes, goes, moves_to, unpaid}
+use Rattle.hpx_steps.specs.Sound.{IsPaid}
 use Rattle.hpx_steps.specs.Steps.{GoesOut}
 
 -- a MOVE moves its target somewhere
@@ -168,8 +170,17 @@ going_counts k to o act (y ∷ ys) same (inl e) =
     omega (arith, one, sum_by-cons (λ x. flow k (PlacedAt o to) (Going x)) y ys)
 going_counts k to o act (y ∷ ys) same (inr m) = omega (arith, going_counts k to o act ys same m, sum_by-cons (λ x. flow k (PlacedAt o to) (Going x)) y ys)
 
+-- a grant that waits until its object leaves counts
+leaving_counts : (o : Id) (to : ℕ) (act : Act) (ps : List Parcel) → moves_to o to act ≡ 1 → Among (Go act) ps → 1 ≤ sum_by (λ p. unpaid (GosOf o to) (Leaving p)) ps
+leaving_counts o to act [] moves m = absurd m
+leaving_counts o to act (p ∷ ps) moves (inl e) =
+    let one : unpaid (GosOf o to) (Leaving p) ≡ 1 = subst (λ (q : Parcel). unpaid (GosOf o to) (Leaving q) ≡ 1) (sym e) moves in
+    omega (arith, one, sum_by-cons (λ q. unpaid (GosOf o to) (Leaving q)) p ps)
+leaving_counts o to act (p ∷ ps) moves (inr m) =
+    omega (arith, leaving_counts o to act ps moves m, sum_by-cons (λ q. unpaid (GosOf o to) (Leaving q)) p ps)
+
 module _ (r : Rules) (s : Turn) (entries : List Entry) (rules : AreRules r s.tables) (keeps : StandsFor r (view s) entries)
-    (places : HasPlaces s.tables.here s.tables.births s.tables.objects s.tables.records s.tables.leaving) (flowing : IsFlowing r s (part s.tables.here entries)) (tidy : IsTidy s) where
+    (places : HasPlaces s.tables.here s.tables.births s.tables.objects s.tables.records s.tables.leaving) (flowing : IsFlowing r s (part s.tables.here entries)) (tidy : IsTidy s) (paid : IsPaid r s (part s.tables.here entries)) where
   abbrev here : ℕ
   here = s.tables.here
 
@@ -201,8 +212,18 @@ module _ (r : Rules) (s : Turn) (entries : List Entry) (rules : AreRules r s.tab
   pub waits_now : (x : Outgoing) (act : Act) → Carries act x.parcel → Among x s.tables.outgoing → WaitsAt r s.tables.here (part s.tables.here entries) act
   waits_now x act c m = λ clean. seen_waits _ (waiting s) (bare_act act) (keeps.shows clean).acts.waiting (going_waits x act c m)
 
+  -- a move that was granted, and for which its object is to leave, was granted here
+  granted_now : (o : Id) (to : ℕ) (act : Act) → moves_to o to act ≡ 1 → Among (Go act) s.tables.leaving → (o.home ≡ s.tables.here)
+      ⊎ (sum_by (λ (e : Entry). goes r (GosOf o to) e.event) (part s.tables.here entries) < sum_by (λ (e : Entry). causes r (GosOf o to) e.event) (part s.tables.here entries))
+  granted_now o to act moves m = if_so (o.home == s.tables.here) (λ u. inl (eqb-true o.home s.tables.here u))
+      (λ u. inr (omega (
+        arith,
+        paid.rows (GosOf o to) (λ e. absurd (let k : true ≡ false = sym (eq-eqb o.home s.tables.here e) ∙ u in cc)),
+        leaving_counts o to act s.tables.leaving moves m,
+      )))
+
   -- an object that does not stay is away
-  away_now : (o : Id) (l : Local) → Shows (view s) l → stays_here s.tables o ≡ false → IsAway s.tables.here l o
+  away_now : (o : Id) (l : Local) → Shows (view s) l → stays_here s.tables o ≡ false → IsAway r s.tables.here l (part s.tables.here entries) o
   away_now o l shows gone = if_so (stands_here s.tables o)
       (λ u.
       let v : leaves_here s.tables o ≡ true = if_so (leaves_here s.tables o) (λ v. v) (λ v. absurd (let k : true ≡ false = rw (u, v) at gone in cc)) in
@@ -210,16 +231,18 @@ module _ (r : Rules) (s : Turn) (entries : List Entry) (rules : AreRules r s.tab
       let its = tidy (Leaving (Go g.0)) g.1 in
       let to = moves_somewhere g.0 its.0 in
       let moves : move_to (bare_act g.0) ≡ Some to.0 = move_to-bare g.0 ∙ to.1 in
-      inr (
-        bare_act g.0,
-        seen_waits l.waiting (waiting s) (bare_act g.0) shows.acts.waiting (leaving_waits g.0 g.1),
-        record {
+      let one : moves_to o to.0 g.0 ≡ 1 = rw (g.2, to.1, eq-eqb to.0 to.0 refl) refl in
+      inr (record {
+        act = bare_act g.0;
+        waits = seen_waits l.waiting (waiting s) (bare_act g.0) shows.acts.waiting (leaving_waits g.0 g.1);
+        leads = record {
           to = to.0;
           target = subst (λ (y : Id). same_object o y ≡ true) (sym (target-bare g.0)) g.2;
           moves = moves;
           away = subst (λ m. IfSome m (λ k. k ≢ s.tables.here)) moves its.1.0;
-        },
-      ))
+        };
+        granted = granted_now o to.0 g.0 one g.1;
+      }))
       (λ u. inl (stands_so r s entries rules keeps places.single flowing o l shows ∙ none_stands r s entries rules keeps places.single flowing o u))
 
   -- where a record says that an object is, or from where a move of it goes, it is recorded

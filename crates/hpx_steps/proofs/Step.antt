@@ -46,7 +46,8 @@ settled r s s' entries h g = subst (λ x. Sound r s x entries []) (sym g.now) (r
   sound = subst (IsSound r (record s { landed = None })) (sym (append-nil entries)) (landed_sound r s None entries h (homes_then r s (record s { landed = None }) entries entries [] NoEntry
       (sym (append-nil (part s.tables.here entries))) refl h.homes (subst (Homes s) g.now (step_homes s entries r h s' Settle g)) h.places h.tidy
       (record { localities = h.rules.localities; credit_log = h.rules.credit_log; credit_limit = h.rules.credit_limit }) h.keeps
-      (record { flows = h.flowing.flows; ends = h.flowing.ends; near = h.flowing.near })));
+      (record { flows = h.flowing.flows; ends = h.flowing.ends; near = h.flowing.near })
+      (record { rows = h.paid.rows; once = h.paid.once; fired = h.paid.fired; frees = h.paid.frees })));
   numbered = λ once. once;
 })
 

@@ -34,7 +34,8 @@ fired_more n m (e ∷ es) less h = (omega (arith, h.0, less), fired_more n m es 
 
 -- so all holds still, where what waits has a home
 pub still_sound : (r : Rules) (s s' : Turn) (entries : List Entry) → IsSound r s entries → Stills r s s'
-    → (AreRules r s'.tables → StandsFor r (view s') entries → IsFlowing r s' (part s'.tables.here entries) → HasHomes r s' (part s'.tables.here entries)) → IsSound r s' entries
+    → (AreRules r s'.tables → StandsFor r (view s') entries → IsFlowing r s' (part s'.tables.here entries) → IsPaid r s' (part s'.tables.here entries)
+    → HasHomes r s' (part s'.tables.here entries)) → IsSound r s' entries
 still_sound r s s' entries h k homes =
     let here : s'.tables.here ≡ s.tables.here = ap (λ (t : Tables). t.here) k.same in
     let es = part s.tables.here entries in
@@ -42,18 +43,19 @@ still_sound r s s' entries h k homes =
     let q = subst (AreRules r) (sym k.same) (record { localities = h.rules.localities; credit_log = h.rules.credit_log; credit_limit = h.rules.credit_limit }) in
     let rules : AreRules r s'.tables = record { localities = q.localities; credit_log = q.credit_log; credit_limit = q.credit_limit } in
     let keeps : StandsFor r (view s') entries = subst (StandsFor r (view s')) (append-nil entries) (grow r (view s) (view s') entries [] h.keeps k.leads) in
-    let flowing : IsFlowing r s' (part s'.tables.here entries) = subst (IsFlowing r s') (sym there) (flowing_then r None s s' es es here (ap (λ (t : Tables). t.localities) k.same) (λ f. omega arith) h.flowing k.flows) in record {
+    let flowing : IsFlowing r s' (part s'.tables.here entries) = subst (IsFlowing r s') (sym there) (flowing_then r None s s' es es here (ap (λ (t : Tables). t.localities) k.same) (λ f. omega arith) h.flowing k.flows) in
+    let paid : IsPaid r s' (part s'.tables.here entries) = subst (IsPaid r s') (sym there) (record {
+      rows = λ row at. let own : IsRowAt s.tables.localities s.tables.here row = subst (λ (t : Tables). IsRowAt t.localities t.here row) k.same at in omega (arith, h.paid.rows row own, k.rows row own);
+      once = omega (arith, h.paid.once, k.once);
+      fired = fired_more (weigh joined s) (weigh joined s') (map (λ (e : Entry). e.event) es) k.fired h.paid.fired;
+      frees = λ o. omega (arith, h.paid.frees o, k.frees o);
+    }) in record {
       rules = rules;
       keeps = keeps;
       tidy = k.tidy;
       places = k.places;
       commits = k.commits;
-      paid = subst (IsPaid r s') (sym there) (record {
-        rows = λ row at. let own : IsRowAt s.tables.localities s.tables.here row = subst (λ (t : Tables). IsRowAt t.localities t.here row) k.same at in omega (arith, h.paid.rows row own, k.rows row own);
-        once = omega (arith, h.paid.once, k.once);
-        fired = fired_more (weigh joined s) (weigh joined s') (map (λ (e : Entry). e.event) es) k.fired h.paid.fired;
-        frees = λ o. omega (arith, h.paid.frees o, k.frees o);
-      });
+      paid = paid;
       orderly = subst (IsOrderly r s') (sym there) (record {
         sent = subst (λ (t : Tables). AllByRecursion (λ (e : Entry). SendsOwn r t.localities t.here t.profile.credit_log e.event) es) (sym k.same) h.orderly.sent;
         asked = λ o n. rw here (omega (arith, h.orderly.asked o n, k.asked o n));
@@ -62,7 +64,7 @@ still_sound r s s' entries h k homes =
       begun = subst (HasBegun r s') (sym there) (begun_then r s s' (λ o. 0) (λ o. 0) es es here (λ o. omega arith) (λ o. omega arith) h.begun k.tracks (λ clean. (clean, shown_then r s entries h clean)));
       placed = subst (IsPlaced r s') (sym there) (placed_then r s s' (λ o j. 0) (λ o. 0) es es here (λ o j. omega arith) (λ o. omega arith) h.placed k.says);
       flowing = flowing;
-      homes = homes rules keeps flowing;
+      homes = homes rules keeps flowing paid;
       arrived = k.arrived;
       numbers = let n = subst (λ (t : Tables). AreNumbers r (record s { tables = t }) entries) (sym k.same)
           (record {

@@ -402,22 +402,25 @@ module _ (r : Rules) (s s' : Turn) (e : Event) (entries : List Entry) (h : IsSou
   flows_then : IsFlowing r s' (part s'.tables.here (entries ++ one))
   flows_then = subst (IsFlowing r s') (sym grown) (flowing_then r (Some e) s s' old (old ++ one) k.counts.here k.counts.localities more h.flowing k.flows)
 
+  all_paid : IsPaid r s' (part s'.tables.here (entries ++ one))
+  all_paid = subst (IsPaid r s') (sym grown) paid_then
+
   -- so all holds still, where what waits has a home
-  pub sound_then : (AreRules r s'.tables → StandsFor r (view s') (entries ++ one) → IsFlowing r s' (part s'.tables.here (entries ++ one)) → HasHomes r s' (part s'.tables.here (entries ++ one)))
-      → IsSound r s' (entries ++ one)
+  pub sound_then : (AreRules r s'.tables → StandsFor r (view s') (entries ++ one) → IsFlowing r s' (part s'.tables.here (entries ++ one)) → IsPaid r s' (part s'.tables.here (entries ++ one))
+      → HasHomes r s' (part s'.tables.here (entries ++ one))) → IsSound r s' (entries ++ one)
   sound_then homes = record {
     rules = rules_then;
     keeps = keeps_then;
     tidy = k.tidy;
     places = k.places;
     commits = k.commits;
-    paid = subst (IsPaid r s') (sym grown) paid_then;
+    paid = all_paid;
     orderly = subst (IsOrderly r s') (sym grown) orderly_then;
     begun = subst (HasBegun r s') (sym grown) (begun_then r s s' (λ o. grants_left o e) (λ o. gone r (leads_on s.tables.here o) e) old (old ++ one) k.counts.here (λ o. more (grants_left o)) (λ o. more (gone r (leads_on s.tables.here o))) h.begun k.tracks
         (λ clean. let first = (clean_front r (at_boot r here) old one clean).0 in (first, shown_then r s entries h first)));
     placed = subst (IsPlaced r s') (sym grown) (placed_then r s s' (λ o j. come r (tells_at o j) e) (λ o. one_if (is_landed_of o e)) old (old ++ one) k.counts.here (λ o j. more (come r (tells_at o j))) (λ o. more (λ x. one_if (is_landed_of o x))) h.placed k.says);
     flowing = flows_then;
-    homes = homes rules_then keeps_then flows_then;
+    homes = homes rules_then keeps_then flows_then all_paid;
     arrived = k.arrived;
     numbers = numbers_then;
   }

@@ -11,6 +11,7 @@ use Rattle.hpx_part.specs.Data.{Entry, Local, Out}
 use Rattle.hpx_part.specs.Parts.{at_boot}
 use Rattle.hpx_steps.specs.Flows.{PlacedAt, dies, flow_comes, flow_goes}
 use Rattle.hpx_steps.specs.Items.{Among}
+use Rattle.hpx_steps.specs.Rows.{GosOf, causes, goes}
 
 -- a message carries an action to its object, or grants the move that it is
 abbrev pub Carries : Act → Parcel → Type 0
@@ -23,9 +24,18 @@ pub record MovesFrom (k : ℕ) (o : Id) (act : Act) : Type 0 where
   pub moves : move_to act ≡ Some to
   pub away : to ≢ k
 
--- at k, where its entries lead to this, o does not stand, or a MOVE from there waits
-abbrev pub IsAway : ℕ → Local → Id → Type 0
-IsAway k l o = (count_by (is_standing o) l.objects ≡ 0) ⊎ ((m : Act) × Among m l.waiting × MovesFrom k o m)
+-- by these entries at k, which lead to this, o is to leave: a MOVE of it from there waits, and it was granted there, as k is its home, or more grants of
+-- moves of o to that place came than o left for there
+pub record IsToLeave (r : Rules) (k : ℕ) (l : Local) (entries : List Entry) (o : Id) : Type 0 where
+  pub act : Act
+  pub waits : Among act l.waiting
+  pub leads : MovesFrom k o act
+  pub granted : (o.home ≡ k)
+      ⊎ (sum_by (λ (e : Entry). goes r (GosOf o leads.to) e.event) entries < sum_by (λ (e : Entry). causes r (GosOf o leads.to) e.event) entries)
+
+-- by these entries at k, which lead to this, o does not stand there, or is to leave
+abbrev pub IsAway : Rules → ℕ → Local → List Entry → Id → Type 0
+IsAway r k l entries o = (count_by (is_standing o) l.objects ≡ 0) ⊎ IsToLeave r k l entries o
 
 -- by these entries at its home k, o is at `to`: it has a count, and more messages came that tell that it landed there than grants of moves went there;
 -- or it has died
@@ -37,7 +47,7 @@ pub record IsRecordedAt (r : Rules) (k to : ℕ) (l : Local) (entries : List Ent
 -- by these entries at k, an action goes on from there: its object is away, or it moves that from there; and it goes to the home of its object, or from
 -- there to where its object is
 pub record GoesOn (r : Rules) (k to : ℕ) (l : Local) (entries : List Entry) (act : Act) : Type 0 where
-  pub away : IsAway k l (target_of act) ⊎ MovesFrom k (target_of act) act
+  pub away : IsAway r k l entries (target_of act) ⊎ MovesFrom k (target_of act) act
   pub way : ((target_of act).home ≡ to) ⊎ (((target_of act).home ≡ k) × IsRecordedAt r k to l entries (target_of act))
 
 -- where these entries lead to, an action waits

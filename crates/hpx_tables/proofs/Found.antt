@@ -13,7 +13,7 @@ use Rattle.hpx_value.specs.Ids.{Id, bare, same_object}
 use Rattle.hpx_part.specs.Data.{Standing}
 use Rattle.hpx_journal.specs.Local.{is_standing}
 use Rattle.hpx_tables.proofs.Alls.{some_same}
-use Rattle.hpx_tables.specs.declared.objects.Object.{Object}
+use Rattle.hpx_tables.specs.declared.object.Object.{Object}
 use Rattle.hpx_tables.specs.Objects.{id_of, IsUnder}
 
 -- the test of the map's keys

@@ -8,3 +8,5 @@ pub mod Merges
 pub mod Found
 pub mod Roots
 pub mod Outlined
+pub mod Counted
+pub mod Tallied

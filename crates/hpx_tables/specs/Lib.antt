@@ -11,3 +11,5 @@ pub mod Awaited
 pub mod Strange
 pub mod Objects
 pub mod Rules
+pub mod Tallies
+pub mod Queued

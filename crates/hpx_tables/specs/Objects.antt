@@ -2,7 +2,7 @@
 use Rattle.std.specs.Prelude.{ℕ, List, ◌≡◌}
 use Rattle.hpx_value.specs.Ids.{Id, bare, bare_id}
 use Rattle.hpx_part.specs.Data.{Standing}
-use Rattle.hpx_tables.specs.declared.objects.Object.{Object}
+use Rattle.hpx_tables.specs.declared.object.Object.{Object}
 
 -- the bare id that a key is
 abbrev pub id_of : Object → Id

@@ -6,10 +6,10 @@ ghost use Rattle.hpx_tables.specs.Pending.{ids_kept};
 use crate::kept::{Fit, Letter, Outgoing};
 use crate::objects::Objects;
 use crate::pending::Pending;
+use crate::queue::Queue;
 use hpx_parcel::parcel::Parcel;
 use hpx_value::acts::Acts;
 use hpx_value::gid::Gid;
-use std::collections::VecDeque;
 
 /// The credit of an object in ids.
 pub fn credit_in(ids: &[Gid], o: Gid) -> u128
@@ -29,6 +29,9 @@ pub fn credit_in(ids: &[Gid], o: Gid) -> u128
 pub fn held_in_states(objects: &Objects, o: Gid) -> u128
     ensures { result ≡ min (2 ^ 128 - 1) (sum_by (λ x. credit_in o x.state.ids) objects.now.items) }
 {
+    if objects.lacks(o) {
+        return 0;
+    }
     let mut sum = 0u128;
     for i in 0..objects.len() {
         sum = sum.saturating_add(credit_in(objects.at(i).state().ids.as_slice(), o));
@@ -70,9 +73,12 @@ pub fn held_in_commits<A: Acts>(pending: &[Pending<A>], o: Gid) -> u128
 }
 
 /// The same in actions that wait.
-pub fn held_in_accepted(accepted: &VecDeque<Fit>, o: Gid) -> u128
+pub fn held_in_accepted(accepted: &Queue<Fit>, o: Gid) -> u128
     ensures { result ≡ min (2 ^ 128 - 1) (sum_by (λ a. credit_in o a.ids) accepted.now.items) }
 {
+    if accepted.lacks(o) {
+        return 0;
+    }
     let mut sum = 0u128;
     for i in 0..accepted.len() {
         sum = sum.saturating_add(credit_in(accepted[i].act().ids.as_slice(), o));
@@ -96,9 +102,12 @@ pub fn held_in_parcel(parcel: &Parcel, o: Gid) -> u128
 }
 
 /// The same in messages that are here.
-pub fn held_in_letters(letters: &VecDeque<Letter>, o: Gid) -> u128
+pub fn held_in_letters(letters: &Queue<Letter>, o: Gid) -> u128
     ensures { result ≡ min (2 ^ 128 - 1) (sum_by (λ p. credit_in o (ids_held p)) letters.now.items) }
 {
+    if letters.lacks(o) {
+        return 0;
+    }
     let mut sum = 0u128;
     for i in 0..letters.len() {
         sum = sum.saturating_add(held_in_parcel(letters[i].parcel(), o));
@@ -107,9 +116,12 @@ pub fn held_in_letters(letters: &VecDeque<Letter>, o: Gid) -> u128
 }
 
 /// The same in messages to others.
-pub fn held_on_the_way(outgoing: &VecDeque<Outgoing>, o: Gid) -> u128
+pub fn held_on_the_way(outgoing: &Queue<Outgoing>, o: Gid) -> u128
     ensures { result ≡ min (2 ^ 128 - 1) (sum_by (λ x. credit_in o (ids_held x.parcel)) outgoing.now.items) }
 {
+    if outgoing.lacks(o) {
+        return 0;
+    }
     let mut sum = 0u128;
     for i in 0..outgoing.len() {
         sum = sum.saturating_add(held_in_parcel(outgoing[i].parcel.parcel(), o));
@@ -135,7 +147,7 @@ pub fn owed_in_parcel(parcel: &Parcel, o: Gid) -> u128
 }
 
 /// The same in messages that are here.
-pub fn owed_in_letters(letters: &VecDeque<Letter>, o: Gid) -> u128
+pub fn owed_in_letters(letters: &Queue<Letter>, o: Gid) -> u128
     ensures { result ≡ min (2 ^ 128 - 1) (sum_by (credit_owed o) letters.now.items) }
 {
     let mut sum = 0u128;
@@ -146,7 +158,7 @@ pub fn owed_in_letters(letters: &VecDeque<Letter>, o: Gid) -> u128
 }
 
 /// The same in messages to others.
-pub fn owed_on_the_way(outgoing: &VecDeque<Outgoing>, o: Gid) -> u128
+pub fn owed_on_the_way(outgoing: &Queue<Outgoing>, o: Gid) -> u128
     ensures { result ≡ min (2 ^ 128 - 1) (sum_by (λ x. credit_owed o x.parcel) outgoing.now.items) }
 {
     let mut sum = 0u128;

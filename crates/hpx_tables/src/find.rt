@@ -1,7 +1,6 @@
 //! Where things are in a node's lists.
 ghost use Rattle.std.specs.Prelude.{◌≡◌, ◌<◌, ℕ, false, Some, None, IfSome, IfNone, length, slice_get, take, find};
 ghost use Rattle.std.specs.List.{list_any};
-ghost use Rattle.std.specs.VecDeque.{deque_len};
 ghost use Rattle.hpx_journal.specs.Entries.{target_of};
 ghost use Rattle.hpx_journal.specs.Local.{is_standing, acts_on, is_busy};
 ghost use Rattle.hpx_tables.specs.Awaited.{answered_by};
@@ -11,12 +10,12 @@ ghost use Rattle.hpx_tables.specs.Pending.{fired_of, awaits};
 use crate::kept::Fit;
 use crate::objects::Objects;
 use crate::pending::Pending;
+use crate::queue::Queue;
 use hpx_value::acts::Acts;
 use hpx_value::codes::{PLAIN, SESSION, SET};
 use hpx_value::exact::Exact;
 use hpx_value::gid::Gid;
 use hpx_value::value::Act;
-use std::collections::VecDeque;
 
 /// The object that an action is for.
 pub fn target(act: &Act) -> Gid
@@ -86,12 +85,12 @@ fn free_at<A: Acts>(
 
 /// The first accepted action whose object is free, and where that object stands.
 pub fn first_free<A: Acts>(
-    accepted: &VecDeque<Fit>,
+    accepted: &Queue<Fit>,
     running: &[Fit],
     pending: &[Pending<A>],
     objects: &Objects,
 ) -> Option<(usize, usize)>
-    ensures inside { IfSome result (λ p. (p.0 < deque_len accepted.now) × (p.1 < length objects.now.items)) }
+    ensures inside { IfSome result (λ p. (p.0 < length accepted.now.items) × (p.1 < length objects.now.items)) }
     ensures free { IfSome result (λ p. (act : _) → slice_get accepted.now.items p.0 ≡ Some act → IsFree (fired_of running.now pending.now) objects.now.items act) }
     ensures found { IfSome result (λ p. (act : _) → slice_get accepted.now.items p.0 ≡ Some act
         → find (is_standing (target_of act)) objects.now.items ≡ slice_get objects.now.items p.1) }

@@ -4,10 +4,14 @@
 
 pub mod births;
 pub mod boot;
+pub mod carries;
 pub mod credit;
 pub mod find;
 pub mod kept;
+mod object;
 pub mod objects;
 pub mod pending;
+pub mod queue;
 pub mod splits;
 pub mod strange;
+mod tally;

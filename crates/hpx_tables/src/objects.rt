@@ -1,13 +1,14 @@
 //! The objects of a locality, each found at once by its id.
-ghost use Rattle.std.specs.Prelude.{◌≡◌, ◌≤◌, ◌<◌, ◌+◌, ◌++◌, ◌∷◌, [], ℕ, length, take, remove, set, slice_get, find, IfSome, IfNone, OnOk, Some, None};
+ghost use Rattle.std.specs.Prelude.{◌≡◌, ◌≤◌, ◌<◌, ◌+◌, ◌++◌, ◌∷◌, [], ℕ, length, take, remove, set, slice_get, find, sum_by, IsTrue, IfSome, IfNone, OnOk, Some, None};
 ghost use Rattle.std.specs.List.Sorted.{IsPermutation};
-ghost use Rattle.hpx_value.specs.Ids.{bare};
 ghost use Rattle.hpx_journal.specs.Local.{is_standing};
 ghost use Rattle.hpx_tables.specs.Fit.{IsKept};
+ghost use Rattle.hpx_tables.specs.Kept.{credit_in};
 ghost use Rattle.hpx_tables.specs.Merged.{merged_in};
-ghost use Rattle.hpx_tables.specs.Objects.{id_of};
 
 use crate::kept::Kept;
+use crate::object::{Object, key_of};
+use crate::tally::Tally;
 use hpx_value::gid::Gid;
 use hpx_value::memory::OutOfMemory;
 use hpx_value::value::State;
@@ -15,20 +16,14 @@ use indexmap::IndexMap;
 use std::alloc::Global;
 use std::marker::Model;
 
-/// What names an object.
-#[derive(Clone, Copy, Debug, PartialEq, Eq, Hash)]
-struct Object {
-    home: u32,
-    kind: u32,
-    number: u64,
-}
-
 /// The objects of a locality.
 ///
-/// Keys are bare ids: the credit that an id carries is not looked at.
+/// Keys are bare ids: the credit that an id carries is not looked at. The ids in states are counted as these change; where there
+/// is no memory for it, they are looked for among the states.
 #[derive(Drop)]
 pub struct Objects {
     items: IndexMap<Object, Kept>,
+    tally: Tally,
 }
 
 impl Model for Objects {
@@ -36,23 +31,13 @@ impl Model for Objects {
     ghost use Rattle.std.specs.Map.{values_of};
     ghost use Rattle.indexmap.specs.IndexMap.{spare};
     ghost use Rattle.hpx_tables.specs.Objects.{Shelf, IsUnder};
+    ghost use Rattle.hpx_tables.specs.Tallies.{Counts};
 
     ghost Value = { Shelf };
 
     ghost view = { λ s. record { items = values_of s.items.entries; spare = spare s.items } };
 
-    ghost invariant = { λ s. AllByRecursion IsUnder s.items.entries };
-}
-
-/// The key of an id.
-fn key_of(gid: Gid) -> Object
-    ensures { id_of result ≡ bare gid }
-{
-    Object {
-        home: gid.home(),
-        kind: gid.kind(),
-        number: gid.number(),
-    }
+    ghost invariant = { λ s. AllByRecursion IsUnder s.items.entries × Counts s.tally (λ x. x.state.ids) (values_of s.items.entries) };
 }
 
 impl Objects {
@@ -62,6 +47,7 @@ impl Objects {
     {
         Objects {
             items: IndexMap::new(alloc),
+            tally: Tally::new(alloc),
         }
     }
 
@@ -99,6 +85,13 @@ impl Objects {
         self.items.get_index(j).unwrap().1
     }
 
+    /// Whether no state has credit of an object, for certain.
+    pub fn lacks(&self, o: Gid) -> bool
+        ensures { IsTrue result → sum_by (λ x. credit_in o x.state.ids) self.now.items ≡ 0 }
+    {
+        self.tally.lacks(o)
+    }
+
     /// Puts an object that does not stand here behind the others, where there is room.
     pub fn put(&mut self, kept: Kept)
         requires absent { find (is_standing kept.object) self.old.items ≡ None }
@@ -107,6 +100,7 @@ impl Objects {
         ensures spare { self.old.spare ≤ self.new.spare + 1 }
     {
         let key = key_of(kept.object());
+        self.tally.add(kept.state().ids.as_slice());
         self.items.insert(key, kept).unwrap();
     }
 
@@ -128,6 +122,8 @@ impl Objects {
         ensures spare { self.new.spare ≡ self.old.spare }
     {
         let object = self.at(j).object();
+        self.tally.take(self.items[j].state().ids.as_slice());
+        self.tally.add(state.ids.as_slice());
         self.items[j] = Kept::new(object, state);
     }
 
@@ -148,6 +144,8 @@ impl Objects {
         ensures items { IsPermutation (remove self.old.items j) self.new.items }
         ensures spare { self.old.spare ≤ self.new.spare }
     {
-        self.items.swap_remove_index(j).unwrap().1
+        let kept = self.items.swap_remove_index(j).unwrap().1;
+        self.tally.take(kept.state().ids.as_slice());
+        kept
     }
 }

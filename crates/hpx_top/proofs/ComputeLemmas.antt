@@ -9,6 +9,7 @@ use Rattle.hpx_journal.specs.declared.entry.Entry.{Entry}
 use Rattle.hpx_journal.specs.Entries.{Rules}
 use Rattle.hpx_journal.specs.Pool.{NoneFails, prints_of}
 use Rattle.hpx_journal.specs.Sessions.{BeginsWith}
+use Rattle.hpx_journal.specs.Whole.{IsCarried}
 use Rattle.hpx_ports.specs.Told.{followed}
 use Rattle.hpx_steps.specs.Rest.{rules_of}
 use Rattle.hpx_world.specs.Places.{Places}
@@ -19,7 +20,10 @@ use Rattle.app_compute.proofs.FibText.{whole_text}
 use Rattle.app_compute.proofs.RingLines as Lines
 use Rattle.app_compute.proofs.StencilText as ring
 use Rattle.hpx_top.specs.declared.session.SessionFault.{SessionFault}
-use Rattle.hpx_top.specs.declared.session.SessionFault.TheVariants.{Read, Write, Fabric, JournalFull, OutOfMemory, BadFrame, Strange, InputFull}
+use Rattle.hpx_top.specs.declared.session.SessionFault.TheVariants.{Read, Write, Fabric, JournalFull, OutOfMemory, Broken, InputFull}
+use Rattle.hpx_top.specs.declared.breach.Breach.{Breach}
+use Rattle.hpx_top.specs.declared.breach.Breach.TheVariants.{BadFrame, Strange, EarlyEnd}
+use Rattle.hpx_top.specs.Breaches.{breach_status}
 use Rattle.hpx_top.specs.declared.consoles.UserConsole.{UserConsole}
 use Rattle.hpx_top.specs.declared.task.Task.{Task}
 use Rattle.hpx_top.specs.declared.task.Task.TheVariants.{Console, Fib, Stencil, Load}
@@ -35,36 +39,36 @@ use Rattle.hpx_top.proofs.SessionLemmas.{fed_once}
 -- ---- what is printed
 
 fib_prints : (n : ℕ) (p : Profile) (number threshold : ℕ) (es : List Entry) → 1 ≤ n → n ≤ 64 → IsQuestion number threshold
-    → NoneFails es → Feeds (rules_of act_of n p) (fed_line number threshold) [] es → prints_of es ≡ fib_text number ∷ []
-fib_prints n p number threshold es some few question calm f =
+    → IsCarried (rules_of act_of n p) [] es → NoneFails es → Feeds (rules_of act_of n p) (fed_line number threshold) [] es → prints_of es ≡ fib_text number ∷ []
+fib_prints n p number threshold es some few question carried calm f =
     whole_text (rules_of act_of n p) (judged n p some few) number threshold question es calm (record {
-      legal = f.legal;
+      legal = f.legal carried;
       begins = subst (BeginsWith (fed_line number threshold)) (sym f.is) f.begins;
-      settled = f.settled;
+      settled = f.settled carried;
     })
 
 ring_prints : (n : ℕ) (p : Profile) (points parts steps : ℕ) (es : List Entry) → 1 ≤ n → n ≤ 64 → IsAsked points parts steps
-    → NoneFails es → Feeds (rules_of act_of n p) (ring_fed points parts steps) [] es → prints_of es ≡ stencil_texts points steps
-ring_prints n p points parts steps es some few asked calm f =
+    → IsCarried (rules_of act_of n p) [] es → NoneFails es → Feeds (rules_of act_of n p) (ring_fed points parts steps) [] es → prints_of es ≡ stencil_texts points steps
+ring_prints n p points parts steps es some few asked carried calm f =
     ring.whole_text (rules_of act_of n p) (judged n p some few) points parts steps asked es calm (record {
-      legal = f.legal;
+      legal = f.legal carried;
       begins = subst (BeginsWith (ring_fed points parts steps)) (sym f.is) f.begins;
-      settled = f.settled;
+      settled = f.settled carried;
     })
 
 pub some_same : {X : Type 0} (x y : X) → Some x ≡ Some y → x ≡ y
 some_same x y e = cc
 
 pub task_prints : (task : Task) (n : ℕ) (p : Profile) (line : List ℕ) (es : List Entry) → IsTask task → task_line task ≡ Some line → 1 ≤ n → n ≤ 64
-    → NoneFails es → Feeds (rules_of act_of n p) line [] es → prints_of es ≡ task_texts task
-task_prints (Console console) n p line es h is some few calm f = absurd (let no : None ≡ Some line = is in cc)
-task_prints (Fib question) n p line es h is some few calm f =
+    → IsCarried (rules_of act_of n p) [] es → NoneFails es → Feeds (rules_of act_of n p) line [] es → prints_of es ≡ task_texts task
+task_prints (Console console) n p line es h is some few carried calm f = absurd (let no : None ≡ Some line = is in cc)
+task_prints (Fib question) n p line es h is some few carried calm f =
     let same : fed_line question.number question.threshold ≡ line = some_same (fed_line question.number question.threshold) line is in
-    fib_prints n p question.number question.threshold es some few h calm (subst (λ l. Feeds (rules_of act_of n p) l [] es) (sym same) f)
-task_prints (Stencil shape) n p line es h is some few calm f =
+    fib_prints n p question.number question.threshold es some few h carried calm (subst (λ l. Feeds (rules_of act_of n p) l [] es) (sym same) f)
+task_prints (Stencil shape) n p line es h is some few carried calm f =
     let same : ring_fed shape.points shape.parts shape.steps ≡ line = some_same (ring_fed shape.points shape.parts shape.steps) line is in
-    ring_prints n p shape.points shape.parts shape.steps es some few h calm (subst (λ l. Feeds (rules_of act_of n p) l [] es) (sym same) f)
-task_prints (Load load) n p line es h is some few calm f = absurd (let no : None ≡ Some line = is in cc)
+    ring_prints n p shape.points shape.parts shape.steps es some few h carried calm (subst (λ l. Feeds (rules_of act_of n p) l [] es) (sym same) f)
+task_prints (Load load) n p line es h is some few carried calm f = absurd (let no : None ≡ Some line = is in cc)
 
 -- ---- how long a line is
 
@@ -114,6 +118,22 @@ cut line texts status es old new failed fed same = record {
     at_most (inl none) = inl (ap lines_fed none)
     at_most (inr f) = inr (fed_once line [] es f)
 
+-- the status of a breach is 7 or 8
+pub breach_fails : (breach : Breach) → breach_status breach ≢ 0
+breach_fails (BadFrame to at why) s = absurd (omega (arith, s))
+breach_fails (Strange to rule object kept) s = absurd (omega (arith, s))
+breach_fails (EarlyEnd sent taken) s = absurd (omega (arith, s))
+
+pub breach_high : (breach : Breach) → 7 ≤ breach_status breach
+breach_high (BadFrame to at why) = omega arith
+breach_high (Strange to rule object kept) = omega arith
+breach_high (EarlyEnd sent taken) = omega arith
+
+pub breach_low : (breach : Breach) → breach_status breach ≤ 8
+breach_low (BadFrame to at why) = omega arith
+breach_low (Strange to rule object kept) = omega arith
+breach_low (EarlyEnd sent taken) = omega arith
+
 pub has_computed : {T : Type 0} (res : Result T SessionFault) (r : Rules) (line : List ℕ) (texts : List (List ℕ)) (es : List Entry) (old new : Option (List ℕ))
     → (Feeds r line [] es → prints_of es ≡ texts) → OnOk res (IsAnswered r line es old new) → IfErr res (λ f. IsUnanswered f r line es old new)
     → HasComputed line texts (status_after res) es old new
@@ -136,8 +156,7 @@ has_computed (Err InputFull) r line texts es old new prints ok err = absurd err
 has_computed (Err Fabric) r line texts es old new prints ok err = cut line texts 4 es old new (λ s. absurd (omega (arith, s))) err.0 err.1
 has_computed (Err JournalFull) r line texts es old new prints ok err = cut line texts 5 es old new (λ s. absurd (omega (arith, s))) err.0 err.1
 has_computed (Err OutOfMemory) r line texts es old new prints ok err = cut line texts 6 es old new (λ s. absurd (omega (arith, s))) err.0 err.1
-has_computed (Err BadFrame) r line texts es old new prints ok err = cut line texts 7 es old new (λ s. absurd (omega (arith, s))) err.0 err.1
-has_computed (Err Strange) r line texts es old new prints ok err = cut line texts 8 es old new (λ s. absurd (omega (arith, s))) err.0 err.1
+has_computed (Err (Broken breach)) r line texts es old new prints ok err = cut line texts (breach_status breach) es old new (breach_fails breach) err.0 err.1
 
 -- without memory for a world or the line nothing was done
 pub computed_none : {T : Type 0} (line : List ℕ) (texts : List (List ℕ)) (res : Result T SessionFault) (old new : Option (List ℕ)) → res ≡ Err OutOfMemory → new ≡ old
@@ -165,8 +184,7 @@ unanswered_fed InputFull r line es old new read write full fed same = absurd (fu
 unanswered_fed Fabric r line es old new read write full fed same = (fed, same)
 unanswered_fed JournalFull r line es old new read write full fed same = (fed, same)
 unanswered_fed OutOfMemory r line es old new read write full fed same = (fed, same)
-unanswered_fed BadFrame r line es old new read write full fed same = (fed, same)
-unanswered_fed Strange r line es old new read write full fed same = (fed, same)
+unanswered_fed (Broken breach) r line es old new read write full fed same = (fed, same)
 
 pub unanswered_shown : {T : Type 0} (res : Result T SessionFault) (r : Rules) (line : List ℕ) (es : List Entry) (old new : Option (List ℕ)) (X : Type 0) → Feeds r line [] es
     → OnErr res (WritesFront (concat (prints_of es)) old new) → IfErr res (λ f. (f ≡ Write) × X) → IfErr res (λ f. IsUnanswered f r line es old new)

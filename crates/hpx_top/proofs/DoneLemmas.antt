@@ -2,11 +2,9 @@
 use Rattle.std.specs.Prelude.{Result, Ok, Err, OnOk, OnErr, IfErr, IfSome, ⊤, length}
 use Rattle.std.proofs.Common.{ℕ, true, false, List, [], ◌++◌, ◌≡◌, ◌≢◌, ◌≤◌, ◌⊎◌, Option, Some, None, refl, sym, ap, subst, ◌∙◌, inl, inr, arith}
 use Rattle.hpx_value.specs.declared.profile.Profile.{Profile}
-use Rattle.hpx_journal.specs.Entries.{Frame}
 use Rattle.hpx_journal.specs.Pool.{NoneFails, prints_of}
-use Rattle.hpx_ports.specs.declared.fabric.Wire.{Wire}
 use Rattle.hpx_journal.specs.declared.entry.Entry.{Entry}
-use Rattle.hpx_journal.specs.Whole.{IsLegal}
+use Rattle.hpx_journal.specs.Whole.{IsCarried, IsLegal}
 use Rattle.hpx_steps.specs.Rest.{rules_of}
 use Rattle.app_console.specs.Console.{prompt}
 use Rattle.app_console.specs.Lines.{lines_of}
@@ -16,7 +14,10 @@ use Rattle.hpx_ports.specs.Faults.{Rose}
 use Rattle.hpx_ports.specs.Told.{followed}
 use Rattle.hpx_world.specs.Places.{Places}
 use Rattle.hpx_top.specs.declared.session.SessionFault.{SessionFault}
-use Rattle.hpx_top.specs.declared.session.SessionFault.TheVariants.{Read, Write, Fabric, JournalFull, OutOfMemory, BadFrame, Strange, InputFull}
+use Rattle.hpx_top.specs.declared.session.SessionFault.TheVariants.{Read, Write, Fabric, JournalFull, OutOfMemory, Broken, InputFull}
+use Rattle.hpx_top.specs.declared.breach.Breach.TheVariants.{BadFrame, Strange, EarlyEnd}
+use Rattle.hpx_top.specs.Breaches.{breach_after, breach_in, breach_status, IsShownIn, Shows, TellsBreach}
+use Rattle.hpx_top.specs.declared.breach.Breach.{Breach}
 use Rattle.hpx_top.specs.declared.task.Notice.{Notice}
 use Rattle.hpx_top.specs.declared.task.Setup.{Setup}
 use Rattle.hpx_top.specs.declared.consoles.UserConsole.{UserConsole}
@@ -31,7 +32,7 @@ use Rattle.hpx_top.specs.Session.{rules, entries_in, ByJournal, ByOneSpace, Feed
 use Rattle.hpx_top.specs.Statuses.{IsStatus, status_after, status_of}
 use Rattle.hpx_top.specs.Texts.{commands, lines_text}
 use Rattle.hpx_top.specs.Usage.{IsSetup, IsTask}
-use Rattle.hpx_top.proofs.ComputeLemmas.{computed_in, computed_none, no_console, some_same, task_prints}
+use Rattle.hpx_top.proofs.ComputeLemmas.{breach_fails, breach_high, computed_in, computed_none, no_console, some_same, task_prints}
 use Rattle.hpx_top.proofs.LoadLemmas.{loaded_in, loaded_none, summed_plainly}
 use Rattle.hpx_top.proofs.EndLemmas.{read_from_none}
 use Rattle.hpx_top.proofs.OneSpaceLemmas.{served_plainly}
@@ -40,21 +41,30 @@ use Rattle.hpx_top.proofs.RunLemmas.{at, lawful_calm, served_none}
 use Rattle.hpx_top.proofs.LineLemmas.{followed_nothing, front_all}
 use Rattle.hpx_top.proofs.ShowLemmas.{nothing_said}
 
+-- so many localities with this profile are judged by these rules
+same_in : (w : Places) (n : ℕ) (p : Profile) → (length w.nodes ≡ n) × (w.profile ≡ p) → rules w ≡ rules_of act_of n p
+same_in w n p is = ap (λ k. rules_of act_of k w.profile) is.0 ∙ ap (λ q. rules_of act_of n q) is.1
+
+carried_in : (w : Places) (n : ℕ) (p : Profile) → (length w.nodes ≡ n) × (w.profile ≡ p) → IsCarried (rules_of act_of n p) [] w.journal.entries
+    → IsCarried (rules w) [] w.journal.entries
+carried_in w n p is carried = subst (λ r. IsCarried r [] w.journal.entries) (sym (same_in w n p is)) carried
+
 -- what the journal tells, told of the world that there is
-told_in : (o : Option Places) (n : ℕ) (p : Profile) (flight : Option (List Frame)) (trace : Option (List Wire))
-    → IfSome o (λ w. (length w.nodes ≡ n) × (w.profile ≡ p)) → IfSome o (λ w. IsLawful w flight trace) → NoneRefused p (entries_in o) → NoneFails (entries_in o)
-told_in None n p flight trace is law none = refl
-told_in (Some w) n p flight trace is law none = lawful_calm w flight trace p is.1 law none
+told_in : (o : Option Places) (n : ℕ) (p : Profile)
+    → IfSome o (λ w. (length w.nodes ≡ n) × (w.profile ≡ p)) → IfSome o (λ w. IsLawful w) → IsCarried (rules_of act_of n p) [] (entries_in o) → NoneRefused p (entries_in o)
+    → NoneFails (entries_in o)
+told_in None n p is law carried none = refl
+told_in (Some w) n p is law carried none = lawful_calm w p is.1 law (carried_in w n p is carried) none
 
 same_console : (x y : UserConsole) → Console x ≡ Console y → x ≡ y
 same_console x y e = cc
 
 -- its journal is legal
-legal_in : (o : Option Places) (n : ℕ) (p : Profile) (flight : Option (List Frame)) (trace : Option (List Wire))
-    → IfSome o (λ w. (length w.nodes ≡ n) × (w.profile ≡ p)) → IfSome o (λ w. IsLawful w flight trace) → IsLegal (rules_of act_of n p) (entries_in o)
-legal_in None n p flight trace is law = tt
-legal_in (Some w) n p flight trace is law =
-    subst (λ r. IsLegal r w.journal.entries) (ap (λ k. rules_of act_of k w.profile) is.0 ∙ ap (λ q. rules_of act_of n q) is.1) law.promises.ledger.legal
+legal_in : (o : Option Places) (n : ℕ) (p : Profile)
+    → IfSome o (λ w. (length w.nodes ≡ n) × (w.profile ≡ p)) → IfSome o (λ w. IsLawful w) → IsCarried (rules_of act_of n p) [] (entries_in o) → IsLegal (rules_of act_of n p) (entries_in o)
+legal_in None n p is law carried = tt
+legal_in (Some w) n p is law carried =
+    subst (λ r. IsLegal r w.journal.entries) (same_in w n p is) (law.promises (carried_in w n p is carried)).ledger.legal
 
 no_load : (console : UserConsole) (load : Workload) → Console console ≡ Load load → ⊥
 no_load console load e = cc
@@ -64,24 +74,24 @@ pub reads_console : (task : Task) (console : UserConsole) → task ≡ Console c
 reads_console task console is unread = let never : true ≡ false = ap reads_input (sym is) ∙ unread in cc
 
 -- a console has no line of its own
-pub console_done : (task : Task) (console : UserConsole) (n : ℕ) (p : Profile) (s : ℕ) (cuts : List ℕ) (o : Option Places) (x z : Ports) (flight : Option (List Frame))
-    (trace : Option (List Wire)) → task ≡ Console console → 1 ≤ n → n ≤ 64 → length cuts ≤ 67108865 → IfSome o (λ w. (length w.nodes ≡ n) × (w.profile ≡ p))
-    → IfSome o (λ w. IsLawful w flight trace)
+pub console_done : (task : Task) (console : UserConsole) (n : ℕ) (p : Profile) (s : ℕ) (cuts : List ℕ) (o : Option Places) (x z : Ports)
+    → task ≡ Console console → 1 ≤ n → n ≤ 64 → length cuts ≤ 67108865 → IfSome o (λ w. (length w.nodes ≡ n) × (w.profile ≡ p))
+    → IfSome o (λ w. IsLawful w)
     → ((input : List ℕ) → x.left ≡ Some input → HasServed console (ByJournal (rules_of act_of n p) cuts) s input o x z) → HasDone task n p s cuts o x z
-console_done task console n p s cuts o x z flight trace is some few many places law served = record {
+console_done task console n p s cuts o x z is some few many places law served = record {
   shown = λ line own. absurd (no_console task line own console is);
-  computed = λ granted line own. absurd (no_console task line own console is);
+  computed = λ carried granted line own. absurd (no_console task line own console is);
   loaded = λ load at. absurd (no_load console load (sym is ∙ at));
-  loaded_plainly = λ granted load at. absurd (no_load console load (sym is ∙ at));
+  loaded_plainly = λ carried granted load at. absurd (no_load console load (sym is ∙ at));
   unread = λ no. absurd (reads_console task console is no);
   no_read = λ no. absurd (reads_console task console is no);
   reads = λ input h. (served input h).reads;
   served = λ other at input h.
       subst (λ c. HasServed c (ByJournal (rules_of act_of n p) cuts) s input o x z) (same_console console other (sym is ∙ at)) (served input h);
-  served_plainly = λ granted other at input h own.
+  served_plainly = λ carried granted other at input h own.
       let same = same_console console other (sym is ∙ at) in
       subst (λ c. HasServed c (ByOneSpace n) s input o x z × BeginsPlainly c n input x.text z.text) same
-      (served_plainly console n p s cuts input o x z some few many (legal_in o n p flight trace places law) (told_in o n p flight trace places law granted)
+      (served_plainly console n p s cuts input o x z some few many (legal_in o n p places law carried) (told_in o n p places law carried granted)
       (subst (λ c. none_own c (lines_of input) ≡ false) (sym same) own) (served input h));
 }
 
@@ -90,39 +100,39 @@ no_line : (task : Task) (line : List ℕ) → task_line task ≡ Some line → (
 no_line task line at load is = let never : None ≡ Some line = ap task_line (sym is) ∙ at in cc
 
 -- what is printed of a task with a line of its own, where no ask was refused
-prints_in : (task : Task) (line : List ℕ) (n : ℕ) (p : Profile) (o : Option Places) (flight : Option (List Frame)) (trace : Option (List Wire)) → IsTask task
-    → task_line task ≡ Some line → 1 ≤ n → n ≤ 64 → IfSome o (λ w. (length w.nodes ≡ n) × (w.profile ≡ p)) → IfSome o (λ w. IsLawful w flight trace)
-    → NoneRefused p (entries_in o) → IfSome o (λ w. Feeds (rules w) line [] w.journal.entries → prints_of w.journal.entries ≡ task_texts task)
-prints_in task line n p None flight trace h own some few is law none = tt
-prints_in task line n p (Some w) flight trace h own some few is law none = λ f.
+prints_in : (task : Task) (line : List ℕ) (n : ℕ) (p : Profile) (o : Option Places) → IsTask task
+    → task_line task ≡ Some line → 1 ≤ n → n ≤ 64 → IfSome o (λ w. (length w.nodes ≡ n) × (w.profile ≡ p)) → IfSome o (λ w. IsLawful w)
+    → IsCarried (rules_of act_of n p) [] (entries_in o) → NoneRefused p (entries_in o) → IfSome o (λ w. Feeds (rules w) line [] w.journal.entries → prints_of w.journal.entries ≡ task_texts task)
+prints_in task line n p None h own some few is law carried none = tt
+prints_in task line n p (Some w) h own some few is law carried none = λ f.
     task_prints task (length w.nodes) w.profile line w.journal.entries h own (subst (λ k. 1 ≤ k) (sym is.0) some) (subst (λ k. k ≤ 64) (sym is.0) few)
-    (lawful_calm w flight trace p is.1 law none) f
+    (carried_in w n p is carried) (lawful_calm w p is.1 law (carried_in w n p is carried) none) f
 
 as_printed : (line : List ℕ) (o : Option Places) → IfSome o (λ w. Feeds (rules w) line [] w.journal.entries → prints_of w.journal.entries ≡ prints_of (entries_in o))
 as_printed line None = tt
 as_printed line (Some w) = λ f. refl
 
 -- the task with a line of its own is no console
-pub computed_done : (setup : Setup) (line : List ℕ) (r : Result ⊤ SessionFault) (o : Option Places) (x z : Ports) (flight : Option (List Frame)) (trace : Option (List Wire))
+pub computed_done : (setup : Setup) (line : List ℕ) (r : Result ⊤ SessionFault) (o : Option Places) (x z : Ports)
     → IsSetup setup → task_line setup.task ≡ Some line → IfSome o (λ w. (length w.nodes ≡ setup.localities) × (w.profile ≡ setup.profile))
-    → IfSome o (λ w. IsLawful w flight trace) → (o ≡ None → r ≡ Err OutOfMemory) → (o ≡ None → z.text ≡ x.text)
+    → IfSome o (λ w. IsLawful w) → (o ≡ None → r ≡ Err OutOfMemory) → (o ≡ None → z.text ≡ x.text)
     → IfSome o (λ w. OnOk r (IsAnswered (rules w) line w.journal.entries x.text z.text))
     → IfSome o (λ w. IfErr r (λ f. IsUnanswered f (rules w) line w.journal.entries x.text z.text))
     → z.left ≡ x.left → z.taken ≡ x.taken → z.read_faults ≡ x.read_faults → status_after r ≢ 2 → status_after r ≢ 9
     → HasDone setup.task setup.localities setup.profile (status_after r) [] o x z
-computed_done setup line r o x z flight trace h own is law none same ok err left taken faults no_read no_input = record {
+computed_done setup line r o x z h own is law none same ok err left taken faults no_read no_input = record {
   shown = λ other at. subst (λ l. HasComputed l (prints_of (entries_in o)) (status_after r) (entries_in o) x.text z.text) (some_same line other (sym own ∙ at))
       (computed_in o r line (prints_of (entries_in o)) x.text z.text none same (as_printed line o) ok err);
-  computed = λ granted other at. subst (λ l. HasComputed l (task_texts setup.task) (status_after r) (entries_in o) x.text z.text) (some_same line other (sym own ∙ at))
+  computed = λ carried granted other at. subst (λ l. HasComputed l (task_texts setup.task) (status_after r) (entries_in o) x.text z.text) (some_same line other (sym own ∙ at))
       (computed_in o r line (task_texts setup.task) x.text z.text none same
-      (prints_in setup.task line setup.localities setup.profile o flight trace h.task own h.some h.few is law granted) ok err);
+      (prints_in setup.task line setup.localities setup.profile o h.task own h.some h.few is law carried granted) ok err);
   loaded = λ load is. absurd (no_line setup.task line own load is);
-  loaded_plainly = λ granted load is. absurd (no_line setup.task line own load is);
+  loaded_plainly = λ carried granted load is. absurd (no_line setup.task line own load is);
   unread = λ no. (left, taken, faults, refl);
   no_read = λ no. (no_read, no_input);
   reads = λ input there. rw (left, taken) (read_from_none input x.left x.taken there);
   served = λ console is. absurd (no_console setup.task line own console is);
-  served_plainly = λ granted console is. absurd (no_console setup.task line own console is);
+  served_plainly = λ carried granted console is. absurd (no_console setup.task line own console is);
 }
 
 same_load : (x y : Workload) → Load x ≡ Load y → x ≡ y
@@ -133,31 +143,31 @@ pub load_lines : (task : Task) (load : Workload) → task ≡ Load load → IsTa
 load_lines task load is h = let l : IsTask (Load load) = subst IsTask is h in l.lines
 
 -- what was done of a made session
-pub load_done : (setup : Setup) (load : Workload) (r : Result ⊤ SessionFault) (o : Option Places) (x z : Ports) (flight : Option (List Frame)) (trace : Option (List Wire))
+pub load_done : (setup : Setup) (load : Workload) (r : Result ⊤ SessionFault) (o : Option Places) (x z : Ports)
     → IsSetup setup → setup.task ≡ Load load → load.lines ≤ 20000 → IfSome o (λ w. (length w.nodes ≡ setup.localities) × (w.profile ≡ setup.profile))
-    → IfSome o (λ w. IsLawful w flight trace) → (o ≡ None → r ≡ Err OutOfMemory) → (o ≡ None → z.text ≡ x.text)
+    → IfSome o (λ w. IsLawful w) → (o ≡ None → r ≡ Err OutOfMemory) → (o ≡ None → z.text ≡ x.text)
     → IfSome o (λ w. FeedsFirst (rules w) load w.journal.entries)
     → IfSome o (λ w. OnOk r (WritesSo (IsSummed (rules w) load w.journal.entries) x.text z.text))
     → IfSome o (λ w. IfErr r (λ f. IsUnloaded f (rules w) load w.journal.entries x.text z.text))
     → z.left ≡ x.left → z.taken ≡ x.taken → z.read_faults ≡ x.read_faults → status_after r ≢ 2 → status_after r ≢ 9
     → HasDone setup.task setup.localities setup.profile (status_after r) [] o x z
-load_done setup load r o x z flight trace h own lines is law none same fed ok err left taken faults no_read no_input =
+load_done setup load r o x z h own lines is law none same fed ok err left taken faults no_read no_input =
     let rs = rules_of act_of setup.localities setup.profile in
     record {
       shown = λ line at. absurd (no_line setup.task line at load own);
-      computed = λ granted line at. absurd (no_line setup.task line at load own);
+      computed = λ carried granted line at. absurd (no_line setup.task line at load own);
       loaded = λ other at. subst (λ l. HasLoaded rs l (IsSummed rs l (entries_in o)) (status_after r) (entries_in o) x.text z.text) (same_load load other (sym own ∙ at))
           (loaded_in o setup.localities setup.profile r load (IsSummed rs load (entries_in o)) x.text z.text is none same (λ text s. s) fed ok err);
-      loaded_plainly = λ granted other at.
+      loaded_plainly = λ carried granted other at.
           subst (λ l. HasLoaded rs l (IsSummedPlainly rs l (entries_in o)) (status_after r) (entries_in o) x.text z.text) (same_load load other (sym own ∙ at))
           (loaded_in o setup.localities setup.profile r load (IsSummedPlainly rs load (entries_in o)) x.text z.text is none same
-          (λ text s. summed_plainly setup.localities setup.profile load (entries_in o) text h.some h.few lines
-          (told_in o setup.localities setup.profile flight trace is law granted) s) fed ok err);
+          (λ text s. summed_plainly setup.localities setup.profile load (entries_in o) text h.some h.few lines carried
+          (told_in o setup.localities setup.profile is law carried granted) s) fed ok err);
       unread = λ no. (left, taken, faults, refl);
       no_read = λ no. (no_read, no_input);
       reads = λ input there. rw (left, taken) (read_from_none input x.left x.taken there);
       served = λ console is. absurd (no_load console load (sym is ∙ own));
-      served_plainly = λ granted console is. absurd (no_load console load (sym is ∙ own));
+      served_plainly = λ carried granted console is. absurd (no_load console load (sym is ∙ own));
     }
 
 -- no line was handled
@@ -168,14 +178,14 @@ done_without {task} {n} {p} {s} {cuts} {o} {x} {z} none h = subst (λ cs. HasDon
 pub none_done : (task : Task) (n : ℕ) (p : Profile) (r : Result ⊤ SessionFault) (x : Ports) → r ≡ Err OutOfMemory → HasDone task n p (status_after r) [] None x x
 none_done task n p r x e = record {
   shown = λ line is. computed_none line [] r x.text x.text e refl;
-  computed = λ granted line is. computed_none line (task_texts task) r x.text x.text e refl;
+  computed = λ carried granted line is. computed_none line (task_texts task) r x.text x.text e refl;
   loaded = λ load is. loaded_none r (rules_of act_of n p) load (IsSummed (rules_of act_of n p) load []) x.text x.text e refl;
-  loaded_plainly = λ granted load is. loaded_none r (rules_of act_of n p) load (IsSummedPlainly (rules_of act_of n p) load []) x.text x.text e refl;
+  loaded_plainly = λ carried granted load is. loaded_none r (rules_of act_of n p) load (IsSummedPlainly (rules_of act_of n p) load []) x.text x.text e refl;
   unread = λ no. (refl, refl, refl, refl);
   no_read = λ no. subst (λ q. (status_after q ≢ 2) × (status_after q ≢ 9)) (sym e) (λ s. absurd (omega arith), λ s. absurd (omega arith));
   reads = λ input h. read_from_none input x.left x.taken h;
   served = λ console is input h. served_none (ByJournal (rules_of act_of n p) []) r input x e refl h;
-  served_plainly = λ granted console is input h own. (
+  served_plainly = λ carried granted console is input h own. (
     served_none (ByOneSpace n) r input x e tt h,
     record {
       text = [];
@@ -232,8 +242,7 @@ failed_status Write s = absurd (omega arith)
 failed_status Fabric s = absurd (omega arith)
 failed_status JournalFull s = absurd (omega arith)
 failed_status OutOfMemory s = absurd (omega arith)
-failed_status BadFrame s = absurd (omega arith)
-failed_status Strange s = absurd (omega arith)
+failed_status (Broken breach) s = breach_fails breach s
 failed_status InputFull s = absurd (omega arith)
 
 pub run_failed : (setup : Setup) (cuts : List ℕ) (f : SessionFault) (r : Result ⊤ SessionFault) (o : Option Places) (x z : Ports) → r ≡ Err f
@@ -281,6 +290,16 @@ status_counted (Err f) Q cause = subst (λ g. IsStatus (status_of g)) (sym cause
   no_parcel = λ s. absurd (omega arith);
 })
 
+-- a write that failed is no breach
+pub counted_shown : (r : Result ⊤ SessionFault) (o : Option Places) (Q : Type 0) → IfErr r (λ f. (f ≡ Write) × Q) → IfErr r (λ f. IsShownIn f o)
+counted_shown (Ok t) o Q cause = tt
+counted_shown (Err f) o Q cause = subst (λ g. IsShownIn g o) (sym cause.0) tt
+
+pub told_shown : (r : Result ⊤ SessionFault) (o : Option Places) → IfErr r (λ f. (f ≡ Write) ⊎ (f ≡ OutOfMemory)) → IfErr r (λ f. IsShownIn f o)
+told_shown (Ok t) o only = tt
+told_shown (Err f) o (inl write) = subst (λ g. IsShownIn g o) (sym write) tt
+told_shown (Err f) o (inr memory) = subst (λ g. IsShownIn g o) (sym memory) tt
+
 -- nothing is run
 told_status : (r : Result ⊤ SessionFault) → IfErr r (λ f. (f ≡ Write) ⊎ (f ≡ OutOfMemory)) → (status_after r ≡ 0) ⊎ (status_after r ≡ 3) ⊎ (status_after r ≡ 6)
 told_status (Ok t) only = inl refl
@@ -310,7 +329,7 @@ pub cause_told : (r : Result ⊤ SessionFault) (x z : Ports) → IfErr r (λ f. 
     → HasCause (status_after r) None x z
 cause_told r x z only rose stands taken reads frames = let s = told_status r only in record {
   read = λ is. absurd (no_other (status_after r) 2 s (omega arith) (omega arith) (omega arith) is);
-  write = λ is. rose (at r 3 is);
+  write = λ is. rose (at r 3 is refl);
   frame = λ is. absurd (no_other (status_after r) 4 s (omega arith) (omega arith) (omega arith) is);
   full = λ is. tt;
   room = λ no. tt;
@@ -356,8 +375,9 @@ ends_well (Err Write) o x z none c s n = absurd (n.write (c.write refl))
 ends_well (Err Fabric) o x z none c s n = absurd (n.frame (c.frame refl))
 ends_well (Err JournalFull) None x z none c s n = absurd (none refl refl)
 ends_well (Err JournalFull) (Some w) x z none c s n = absurd (c.full refl n.room)
-ends_well (Err BadFrame) o x z none c s n = absurd (s.no_frame refl)
-ends_well (Err Strange) o x z none c s n = absurd (s.no_parcel refl)
+ends_well (Err (Broken (BadFrame to place why))) o x z none c s n = absurd (s.no_frame refl)
+ends_well (Err (Broken (Strange to rule object kept))) o x z none c s n = absurd (s.no_parcel refl)
+ends_well (Err (Broken (EarlyEnd sent taken))) o x z none c s n = absurd (s.no_parcel refl)
 ends_well (Err InputFull) o x z none c s n = absurd (let all = c.input refl in let few = n.few in omega (arith, all, few))
 
 -- words that ask for nothing end with status 1, and nothing is touched
@@ -383,8 +403,7 @@ not_one (Err Write) s = absurd (omega arith)
 not_one (Err Fabric) s = absurd (omega arith)
 not_one (Err JournalFull) s = absurd (omega arith)
 not_one (Err OutOfMemory) s = absurd (omega arith)
-not_one (Err BadFrame) s = absurd (omega arith)
-not_one (Err Strange) s = absurd (omega arith)
+not_one (Err (Broken breach)) s = absurd (let high = breach_high breach in omega (arith, high, s))
 not_one (Err InputFull) s = absurd (omega arith)
 
 -- ---- the same of equal statuses, requests and lines
@@ -403,3 +422,25 @@ says_as {line} {other} {x} {z} e h = subst (λ l. Says l x z) e h
 
 pub says_nothing : (x : Errors) → Says [] x x
 says_nothing x = record { front = nothing_said x.text; whole = λ calm. sym (followed_nothing x.text) }
+
+-- ---- breaches
+
+-- a run tells a breach exactly where it ends with one
+breach_told : (f : SessionFault) (world : Option Places) → IsShownIn f world → TellsBreach (status_of f) (breach_in f) world
+breach_told Read world h = record { shown = λ b e. absurd (cc); none = λ e. (λ s. absurd (omega (arith, s)), λ s. absurd (omega (arith, s))) }
+breach_told Write world h = record { shown = λ b e. absurd (cc); none = λ e. (λ s. absurd (omega (arith, s)), λ s. absurd (omega (arith, s))) }
+breach_told Fabric world h = record { shown = λ b e. absurd (cc); none = λ e. (λ s. absurd (omega (arith, s)), λ s. absurd (omega (arith, s))) }
+breach_told JournalFull world h = record { shown = λ b e. absurd (cc); none = λ e. (λ s. absurd (omega (arith, s)), λ s. absurd (omega (arith, s))) }
+breach_told OutOfMemory world h = record { shown = λ b e. absurd (cc); none = λ e. (λ s. absurd (omega (arith, s)), λ s. absurd (omega (arith, s))) }
+breach_told InputFull world h = record { shown = λ b e. absurd (cc); none = λ e. (λ s. absurd (omega (arith, s)), λ s. absurd (omega (arith, s))) }
+breach_told (Broken breach) world h = record {
+  shown = λ b e. subst (λ (c : Breach). (breach_status breach ≡ breach_status c) × ((w : Places) × (world ≡ Some w) × Shows c w)) (some_same breach b e) (refl, h);
+  none = λ e. absurd (cc);
+}
+
+pub no_breach_told : (status : ℕ) (world : Option Places) → status ≢ 7 → status ≢ 8 → TellsBreach status None world
+no_breach_told status world seven eight = record { shown = λ b e. absurd (cc); none = λ e. (seven, eight) }
+
+pub breach_by : (r : Result ⊤ SessionFault) (world : Option Places) → IfErr r (λ f. IsShownIn f world) → TellsBreach (status_after r) (breach_after r) world
+breach_by (Ok x) world h = no_breach_told 0 world (omega arith) (omega arith)
+breach_by (Err f) world h = breach_told f world h

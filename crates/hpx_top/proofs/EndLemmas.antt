@@ -15,7 +15,7 @@ use Rattle.hpx_top.specs.declared.consoles.UserConsole.{UserConsole}
 use Rattle.hpx_top.specs.Texts.{commands, fed, held_behind}
 use Rattle.hpx_top.specs.Reader.{Reading, HasRead, IsOut, input_left, lines_left, behind_line, behind}
 use Rattle.hpx_top.specs.declared.session.SessionFault.{SessionFault}
-use Rattle.hpx_top.specs.declared.session.SessionFault.TheVariants.{Read, Write, Fabric, JournalFull, OutOfMemory, BadFrame, Strange, InputFull}
+use Rattle.hpx_top.specs.declared.session.SessionFault.TheVariants.{Read, Write, Fabric, JournalFull, OutOfMemory, Broken, InputFull}
 use Rattle.hpx_top.specs.Session.{lines_fed, Telling, ByJournal, TellsAll, TellsNone, IsToldUp, IsTheirs, IsOfAll, IsCut, IsCutAt, IsCutIn, IsCutAtOpening, IsCutBy, IsEndCutBy, IsOver, IsUnderWay, IsStopped}
 use Rattle.hpx_top.specs.Ends.{IsWhole, IsBrokenOff, IsBrokenIn, IsBrokenAtEnd, IsBrokenAtOpening, IsBegun, IsFullBehind, IsShort, IsEndedBy, IsReadFrom, IsReadUp, IsReadOn}
 use Rattle.hpx_top.proofs.LineLemmas.{told_rest, before_quit_append, followed_nothing}
@@ -189,8 +189,7 @@ ended_at console r cuts Read input rest entries old new c = broken_at 0 input en
 ended_at console r cuts InputFull input rest entries old new c = broken_at 0 input entries old new c
 ended_at console r cuts Fabric input rest entries old new c = inl (broken_in input entries old new c)
 ended_at console r cuts JournalFull input rest entries old new c = inl (broken_in input entries old new c)
-ended_at console r cuts BadFrame input rest entries old new c = inl (broken_in input entries old new c)
-ended_at console r cuts Strange input rest entries old new c = inl (broken_in input entries old new c)
+ended_at console r cuts (Broken breach) input rest entries old new c = inl (broken_in input entries old new c)
 ended_at console r cuts OutOfMemory input rest entries old new c = inl (broken_at 1 input entries old new c)
 
 begun_cut : {console : UserConsole} {r : Rules} {cuts : List ℕ} (most : ℕ) (input : List ℕ) (entries : List Entry) (old new : Option (List ℕ)) → most ≤ 1
@@ -209,8 +208,7 @@ begun_by {console} {r} {cuts} Read input entries old new c = begun_cut 0 input e
 begun_by {console} {r} {cuts} InputFull input entries old new c = begun_cut 0 input entries old new (omega arith) c
 begun_by {console} {r} {cuts} Fabric input entries old new c = begun_in input entries old new c
 begun_by {console} {r} {cuts} JournalFull input entries old new c = begun_in input entries old new c
-begun_by {console} {r} {cuts} BadFrame input entries old new c = begun_in input entries old new c
-begun_by {console} {r} {cuts} Strange input entries old new c = begun_in input entries old new c
+begun_by {console} {r} {cuts} (Broken breach) input entries old new c = begun_in input entries old new c
 begun_by {console} {r} {cuts} OutOfMemory input entries old new c = begun_cut 1 input entries old new (omega arith) c
 
 -- while the accumulator was made
@@ -231,8 +229,7 @@ ended_opening {console} telling Write input rest entries old new other unread c 
 ended_opening {console} telling InputFull input rest entries old new other unread c = absurd (other.2 refl)
 ended_opening {console} telling Fabric input rest entries old new other unread c = inr (inr (opening_broken input rest entries old new unread c))
 ended_opening {console} telling JournalFull input rest entries old new other unread c = inr (inr (opening_broken input rest entries old new unread c))
-ended_opening {console} telling BadFrame input rest entries old new other unread c = inr (inr (opening_broken input rest entries old new unread c))
-ended_opening {console} telling Strange input rest entries old new other unread c = inr (inr (opening_broken input rest entries old new unread c))
+ended_opening {console} telling (Broken breach) input rest entries old new other unread c = inr (inr (opening_broken input rest entries old new unread c))
 ended_opening {console} telling OutOfMemory input rest entries old new other unread c = inr (inr (opening_broken input rest entries old new unread c))
 
 -- what was held back was not let go
@@ -245,8 +242,7 @@ ended_end {console} {r} {ended} {held} {cuts} {before} {now} {old} Read input re
 ended_end {console} {r} {ended} {held} {cuts} {before} {now} {old} InputFull input rest new later o unfed on still c = absurd c
 ended_end {console} {r} {ended} {held} {cuts} {before} {now} {old} Fabric input rest new later o unfed on still c = inr (inl (broken_end input new later o unfed on c))
 ended_end {console} {r} {ended} {held} {cuts} {before} {now} {old} JournalFull input rest new later o unfed on still c = inr (inl (broken_end input new later o unfed on c))
-ended_end {console} {r} {ended} {held} {cuts} {before} {now} {old} BadFrame input rest new later o unfed on still c = inr (inl (broken_end input new later o unfed on c))
-ended_end {console} {r} {ended} {held} {cuts} {before} {now} {old} Strange input rest new later o unfed on still c = inr (inl (broken_end input new later o unfed on c))
+ended_end {console} {r} {ended} {held} {cuts} {before} {now} {old} (Broken breach) input rest new later o unfed on still c = inr (inl (broken_end input new later o unfed on c))
 ended_end {console} {r} {ended} {held} {cuts} {before} {now} {old} OutOfMemory input rest new later o unfed on still c = inr (inl (broken_end input new later o unfed on c))
 
 begun_end : {console : UserConsole} {r : Rules} {ended held : Bool} {cuts : List ℕ} {before : Option (List ℕ)} {now : Option (List ℕ)} {old : List Entry} (f : SessionFault) (input : List ℕ)
@@ -263,8 +259,7 @@ begun_end {console} {r} {ended} {held} {cuts} {before} {now} {old} f input new l
     under InputFull c = absurd c
     under Fabric c = under_all all before now later old new o unfed c
     under JournalFull c = under_all all before now later old new o unfed c
-    under BadFrame c = under_all all before now later old new o unfed c
-    under Strange c = under_all all before now later old new o unfed c
+    under (Broken breach) c = under_all all before now later old new o unfed c
     under OutOfMemory c = under_all all before now later old new o unfed c
 
 -- ---- the same of the bytes that a source had left

@@ -1,14 +1,14 @@
 -- A text that is fed, and how serving it ends.
-use Rattle.std.specs.Prelude.{◌⊎◌, Bool, false, Result, Ok, Err, OnOk, ◌≢◌, if◌then◌else◌}
+use Rattle.std.specs.Prelude.{◌⊎◌, Bool, false, Result, Ok, Err, OnOk, IfErr, ◌≢◌, if◌then◌else◌}
 use Rattle.std.specs.List.{slice_get, AllByRecursion}
 use Rattle.std.proofs.Common.{ℕ, zero, suc, List, [], ◌∷◌, ◌++◌, ◌≡◌, ◌≤◌, length, set, Option, Some, refl, sym, ap, ◌∙◌, subst, inl, inr, arith, append-nil, append_assoc}
 use Rattle.hpx_value.specs.declared.profile.Profile.{Profile}
 use Rattle.hpx_journal.specs.declared.entry.Name.{Name}
 use Rattle.hpx_journal.specs.declared.entry.Entry.{Entry}
 use Rattle.hpx_journal.specs.declared.entry.Event.TheVariants.{Line}
-use Rattle.hpx_journal.specs.Entries.{Rules}
+use Rattle.hpx_journal.specs.Entries.{Frame, Rules}
 use Rattle.hpx_journal.specs.Pool.{NoneFails}
-use Rattle.hpx_journal.specs.Whole.{replayed}
+use Rattle.hpx_journal.specs.Whole.{IsCarried, replayed}
 use Rattle.hpx_journal.specs.Weights.{HasRoom}
 use Rattle.hpx_journal.proofs.Ample.{legal_ample}
 use Rattle.hpx_journal.proofs.Sessions.{quiet_settled}
@@ -16,6 +16,8 @@ use Rattle.hpx_journal.proofs.Start.{quiet_fires, quiet_dones}
 use Rattle.hpx_steps.specs.Rest.{rules_of}
 use Rattle.hpx_tables.specs.Tables.{Tables, IsPassive}
 use Rattle.hpx_ports.specs.Told.{followed}
+use Rattle.hpx_ports.specs.declared.fabric.Wire.{Wire}
+use Rattle.hpx_world.specs.Away.{IsCarrying}
 use Rattle.hpx_world.specs.declared.turns.Turned.{Turned}
 use Rattle.hpx_world.specs.declared.turns.Turned.TheVariants as turned
 use Rattle.hpx_world.specs.Places.{Places}
@@ -34,10 +36,13 @@ use Rattle.hpx_top.specs.Acts.{act_of}
 use Rattle.hpx_top.specs.declared.consoles.UserConsole.{UserConsole}
 use Rattle.hpx_top.specs.declared.consoles.UserConsole.TheVariants.{Accumulator}
 use Rattle.hpx_top.specs.Texts.{TooLong, Typed, commands, fed_lines, how, is_fed, mark_of, owns}
+use Rattle.hpx_top.specs.declared.breach.Breach.{Breach}
+use Rattle.hpx_top.specs.Breaches.{breach_in, IsOfTurn, IsShown, NoBreach, Shows}
+use Rattle.hpx_top.specs.Parts.{Rests}
 use Rattle.hpx_top.specs.declared.session.SessionFault.{SessionFault}
-use Rattle.hpx_top.specs.declared.session.SessionFault.TheVariants.{Read, Write, Fabric, JournalFull, OutOfMemory, BadFrame, Strange, InputFull}
+use Rattle.hpx_top.specs.declared.session.SessionFault.TheVariants.{Read, Write, Fabric, JournalFull, OutOfMemory, Broken, InputFull}
 use Rattle.hpx_top.specs.Reader.{Reading, lines_left}
-use Rattle.hpx_top.specs.Session.{rules, IsAmple, NoneRefused, AllGranted, AllDone, ByJournal, Telling, lines_fed, IsFed, FeedsAtMost, HasBegun, Feeds, IsServing, IsLeft, IsCutAtOpening, IsUnderWay, IsCutBy, IsLineEndedBy, TellsNone}
+use Rattle.hpx_top.specs.Session.{rules, Carries, IsAmple, NoneRefused, AllGranted, AllDone, ByJournal, Telling, lines_fed, IsFed, FeedsAtMost, HasBegun, Feeds, IsServing, IsLeft, IsCutAtOpening, IsUnderWay, IsCutBy, IsEndCutBy, IsLineEndedBy, TellsNone}
 use Rattle.hpx_top.proofs.LineLemmas.{block_line, none_fed}
 use Rattle.hpx_top.proofs.SessionLemmas.{IsNext, cut_in, cut_line, fed_once, under_line}
 
@@ -45,6 +50,13 @@ use Rattle.hpx_top.proofs.SessionLemmas.{IsNext, cut_in, cut_line, fed_once, und
 
 pub same_rules : (w w' : Places) → length w'.nodes ≡ length w.nodes → w'.profile ≡ w.profile → rules w' ≡ rules w
 same_rules w w' count same = ap (λ n. rules_of act_of n w'.profile) count ∙ ap (λ p. rules_of act_of (length w.nodes) p) same
+
+-- a fabric that carried before a turn carries behind it
+pub carries_then : (w w' : Places) (flight flight' : Option (List Frame)) (trace trace' : Option (List Wire)) → length w'.nodes ≡ length w.nodes → w'.profile ≡ w.profile
+    → (IsCarrying (rules w) w.hand flight trace w.journal.entries → IsCarrying (rules w) w'.hand flight' trace' w'.journal.entries)
+    → Carries w flight trace → Carries w' flight' trace'
+carries_then w w' flight flight' trace trace' count same f c =
+    subst (λ r. IsCarrying r w'.hand flight' trace' w'.journal.entries) (sym (same_rules w w' count same)) (f c)
 
 -- ---- a text and what follows from it are a block
 
@@ -149,39 +161,157 @@ all_done n p es promises rest = record {
 }
 
 -- what was fed, and all that follows from it
-pub feeds : (n : ℕ) (p : Profile) (text : List ℕ) (old new : List Entry) → IsFed text old new → KeepsPromises (rules_of act_of n p) new
-    → IsAtRest (rules_of act_of n p) (replayed (rules_of act_of n p) new) → Feeds (rules_of act_of n p) text old new
+pub feeds : (n : ℕ) (p : Profile) (text : List ℕ) (old new : List Entry) → IsFed text old new
+    → (IsCarried (rules_of act_of n p) [] new → KeepsPromises (rules_of act_of n p) new) → Rests (rules_of act_of n p) new → Feeds (rules_of act_of n p) text old new
 feeds n p text old new f promises rest = record {
   block = f.block;
   is = f.is;
   begins = f.begins;
-  legal = promises.ledger.legal;
-  settled = quiet_settled (rules_of act_of n p) (replayed (rules_of act_of n p) new) rest.quiet;
+  legal = λ carried. (promises carried).ledger.legal;
+  settled = λ carried. quiet_settled (rules_of act_of n p) (replayed (rules_of act_of n p) new) (rest.rest carried).quiet;
 }
 
 -- ---- why a text is not fed, or the world does not come to rest
 
--- the faults of a world that a console makes, which are the three that are left
-pub of_three : (f : SessionFault) → (f ≢ Read) × (f ≢ Write) × (f ≢ InputFull) → (f ≡ BadFrame → ⊥) → (f ≡ Strange → ⊥)
+-- the faults of a feed, which are the three that are left
+pub of_three : (f : SessionFault) → (f ≢ Read) × (f ≢ Write) × (f ≢ InputFull) → ((b : Breach) → f ≡ Broken b → ⊥)
     → (f ≡ Fabric) ⊎ (f ≡ JournalFull) ⊎ (f ≡ OutOfMemory)
-of_three Read other bad strange = absurd (other.0 refl)
-of_three Write other bad strange = absurd (other.1 refl)
-of_three InputFull other bad strange = absurd (other.2 refl)
-of_three BadFrame other bad strange = absurd (bad refl)
-of_three Strange other bad strange = absurd (strange refl)
-of_three Fabric other bad strange = inl refl
-of_three JournalFull other bad strange = inr (inl refl)
-of_three OutOfMemory other bad strange = inr (inr refl)
+of_three Read other broken = absurd (other.0 refl)
+of_three Write other broken = absurd (other.1 refl)
+of_three InputFull other broken = absurd (other.2 refl)
+of_three (Broken breach) other broken = absurd (broken breach refl)
+of_three Fabric other broken = inl refl
+of_three JournalFull other broken = inr (inl refl)
+of_three OutOfMemory other broken = inr (inr refl)
 
-pub neither : {A B : Type 0} → (A → ⊥) → (B → ⊥) → A ⊎ B → ⊥
-neither a b (inl x) = a x
-neither a b (inr y) = b y
+-- those of a turn, and what shows a breach
+pub of_turn : (f : SessionFault) (w : Places) → (f ≢ Read) × (f ≢ Write) × (f ≢ InputFull) → ((b : Breach) → breach_in f ≡ Some b → Shows b w) → IsOfTurn f w
+of_turn Read w other broken = absurd (other.0 refl)
+of_turn Write w other broken = absurd (other.1 refl)
+of_turn InputFull w other broken = absurd (other.2 refl)
+of_turn (Broken breach) w other broken = broken breach refl
+of_turn Fabric w other broken = tt
+of_turn JournalFull w other broken = tt
+of_turn OutOfMemory w other broken = tt
+
+pub three_turn : (f : SessionFault) (w : Places) → (f ≡ Fabric) ⊎ (f ≡ JournalFull) ⊎ (f ≡ OutOfMemory) → IsOfTurn f w
+three_turn f w (inl e) = subst (λ g. IsOfTurn g w) (sym e) tt
+three_turn f w (inr (inl e)) = subst (λ g. IsOfTurn g w) (sym e) tt
+three_turn f w (inr (inr e)) = subst (λ g. IsOfTurn g w) (sym e) tt
+
+pub three_calm : (f : SessionFault) → (f ≡ Fabric) ⊎ (f ≡ JournalFull) ⊎ (f ≡ OutOfMemory) → NoBreach f
+three_calm f (inl e) = subst NoBreach (sym e) tt
+three_calm f (inr (inl e)) = subst NoBreach (sym e) tt
+three_calm f (inr (inr e)) = subst NoBreach (sym e) tt
+
+pub turn_shown : (f : SessionFault) (w : Places) → IsOfTurn f w → IsShown f w
+turn_shown Read w h = tt
+turn_shown Write w h = tt
+turn_shown InputFull w h = tt
+turn_shown (Broken breach) w h = h
+turn_shown Fabric w h = tt
+turn_shown JournalFull w h = tt
+turn_shown OutOfMemory w h = tt
+
+pub turn_other : (f : SessionFault) (w : Places) → IsOfTurn f w → (f ≢ Read) × (f ≢ Write) × (f ≢ InputFull)
+turn_other f w h = (
+  λ e. subst (λ g. IsOfTurn g w) e h,
+  λ e. subst (λ g. IsOfTurn g w) e h,
+  λ e. subst (λ g. IsOfTurn g w) e h,
+)
+
+pub no_breach : (f : SessionFault) → ((b : Breach) → breach_in f ≡ Some b → ⊥) → NoBreach f
+no_breach Read none = tt
+no_breach Write none = tt
+no_breach InputFull none = tt
+no_breach (Broken breach) none = none breach refl
+no_breach Fabric none = tt
+no_breach JournalFull none = tt
+no_breach OutOfMemory none = tt
+
+-- the same of an answer
+pub answer_shown : {T : Type 0} (r : Result T SessionFault) (w : Places) → IfErr r (λ f. IsOfTurn f w) → IfErr r (λ f. IsShown f w)
+answer_shown (Ok x) w h = tt
+answer_shown (Err f) w h = turn_shown f w h
+
+pub answer_other : {T : Type 0} (r : Result T SessionFault) (w : Places) → IfErr r (λ f. IsOfTurn f w) → (r ≢ Err Read) × (r ≢ Err Write) × (r ≢ Err InputFull)
+answer_other {T} (Ok x) w h = (λ e. cc, λ e. cc, λ e. cc)
+answer_other {T} (Err f) w h =
+    let other = turn_other f w h in
+    (λ e. other.0 (err_same f Read e), λ e. other.1 (err_same f Write e), λ e. other.2 (err_same f InputFull e))
+  where
+    err_same : (a b : SessionFault) → ◌≡◌ {A = Result T SessionFault} (Err a) (Err b) → a ≡ b
+    err_same a b e = cc
+
+pub answer_turn : {T : Type 0} (r : Result T SessionFault) (w : Places) → IfErr r (λ f. (f ≢ Fabric) × IsOfTurn f w) → IfErr r (λ f. IsOfTurn f w)
+answer_turn (Ok x) w h = tt
+answer_turn (Err f) w h = h.1
+
+-- the fabric was left alone
+pub apart_never : {T : Type 0} (r : Result T SessionFault) (w : Places) → IfErr r (λ f. (f ≢ Fabric) × IsOfTurn f w) → r ≡ Err Fabric → ⊥
+apart_never r w h e = (subst (λ q. IfErr q (λ f. (f ≢ Fabric) × IsOfTurn f w)) e h).0 refl
+
+-- want of memory and a failed write show nothing
+pub memory_shown : (f : SessionFault) (w : Places) → f ≡ OutOfMemory → IsShown f w
+memory_shown f w e = subst (λ g. IsShown g w) (sym e) tt
+
+pub memory_calm : (f : SessionFault) → f ≡ OutOfMemory → NoBreach f
+memory_calm f e = subst NoBreach (sym e) tt
+
+pub write_shown : (f : SessionFault) (w : Places) → f ≡ Write → IsShown f w
+write_shown f w e = subst (λ g. IsShown g w) (sym e) tt
+
+pub write_calm : (f : SessionFault) → f ≡ Write → NoBreach f
+write_calm f e = subst NoBreach (sym e) tt
+
+pub written_shown : {T : Type 0} (r : Result T SessionFault) (w : Places) (Q : Type 0) → IfErr r (λ f. (f ≡ Write) × Q) → IfErr r (λ f. IsShown f w)
+written_shown (Ok x) w Q h = tt
+written_shown (Err f) w Q h = write_shown f w h.0
+
+pub written_calm : {T : Type 0} (r : Result T SessionFault) (Q : Type 0) → IfErr r (λ f. (f ≡ Write) × Q) → IfErr r NoBreach
+written_calm (Ok x) Q h = tt
+written_calm (Err f) Q h = write_calm f h.0
+
+-- one or the other
+pub either_shown : (f : SessionFault) (w : Places) (Q S : Type 0) → ((f ≡ Write) × Q) ⊎ ((f ≡ OutOfMemory) × S) → IsShown f w
+either_shown f w Q S (inl h) = write_shown f w h.0
+either_shown f w Q S (inr h) = memory_shown f w h.0
+
+pub either_calm : (f : SessionFault) (Q S : Type 0) → ((f ≡ Write) × Q) ⊎ ((f ≡ OutOfMemory) × S) → NoBreach f
+either_calm f Q S (inl h) = write_calm f h.0
+either_calm f Q S (inr h) = memory_calm f h.0
+
+pub answer_either : {T : Type 0} (r : Result T SessionFault) (w : Places) (Q S : Type 0) → IfErr r (λ f. ((f ≡ Write) × Q) ⊎ ((f ≡ OutOfMemory) × S)) → IfErr r (λ f. IsShown f w)
+answer_either (Ok x) w Q S h = tt
+answer_either (Err f) w Q S h = either_shown f w Q S h
+
+pub answer_calm : {T : Type 0} (r : Result T SessionFault) (Q S : Type 0) → IfErr r (λ f. ((f ≡ Write) × Q) ⊎ ((f ≡ OutOfMemory) × S)) → IfErr r NoBreach
+answer_calm (Ok x) Q S h = tt
+answer_calm (Err f) Q S h = either_calm f Q S h
+
+-- behind the last prompt nothing was written
+pub end_cut : (f : SessionFault) (w : Places) (old new : List Entry) (before now : Option (List ℕ)) → IsOfTurn f w → now ≡ before → IsEndCutBy f old new before now
+end_cut Read w old new before now h same = absurd h
+end_cut Write w old new before now h same = absurd h
+end_cut InputFull w old new before now h same = absurd h
+end_cut (Broken breach) w old new before now h same = same
+end_cut Fabric w old new before now h same = same
+end_cut JournalFull w old new before now h same = same
+end_cut OutOfMemory w old new before now h same = same
+
+-- a fault is none, or is the one that was told
+pub breach_is : (f : SessionFault) (b : Breach) → f ≡ Broken b → breach_in f ≡ Some b
+breach_is f b e = ap breach_in e
 
 -- by what can come where the journal is not full
-pub room_by : (f : SessionFault) (R : Type 0) → (f ≡ Fabric) ⊎ (f ≡ JournalFull) ⊎ (f ≡ OutOfMemory) → (f ≢ JournalFull) → (f ≡ OutOfMemory → R) → (f ≡ Fabric → R) → R
-room_by f R (inl e) full memory there = there e
-room_by f R (inr (inl e)) full memory there = absurd (full e)
-room_by f R (inr (inr e)) full memory there = memory e
+pub room_by : (f : SessionFault) (w : Places) (R : Type 0) → IsOfTurn f w → (f ≢ JournalFull) → (f ≡ OutOfMemory → R) → (f ≡ Fabric → R) → ((b : Breach) → f ≡ Broken b → R) → R
+room_by Read w R h full memory there broken = absurd h
+room_by Write w R h full memory there broken = absurd h
+room_by InputFull w R h full memory there broken = absurd h
+room_by (Broken breach) w R h full memory there broken = broken breach refl
+room_by Fabric w R h full memory there broken = there refl
+room_by JournalFull w R h full memory there broken = absurd (full refl)
+room_by OutOfMemory w R h full memory there broken = memory refl
 
 -- before anything is written there is room
 pub room_none : HasRoom []
@@ -204,8 +334,7 @@ cut_text held' cuts' Read all before now mid later reading next left rest old ne
 cut_text held' cuts' InputFull all before now mid later reading next left rest old new s prompted takes short e = absurd e
 cut_text held' cuts' Fabric all before now mid later reading next left rest old new s prompted takes short e = cut_in all before now mid later reading next left rest old new s prompted takes short e
 cut_text held' cuts' JournalFull all before now mid later reading next left rest old new s prompted takes short e = cut_in all before now mid later reading next left rest old new s prompted takes short e
-cut_text held' cuts' BadFrame all before now mid later reading next left rest old new s prompted takes short e = cut_in all before now mid later reading next left rest old new s prompted takes short e
-cut_text held' cuts' Strange all before now mid later reading next left rest old new s prompted takes short e = cut_in all before now mid later reading next left rest old new s prompted takes short e
+cut_text held' cuts' (Broken breach) all before now mid later reading next left rest old new s prompted takes short e = cut_in all before now mid later reading next left rest old new s prompted takes short e
 cut_text held' cuts' OutOfMemory all before now mid later reading next left rest old new s prompted takes short e = (cut_line all before now mid later reading next left rest old new s prompted takes e).0
 
 -- a line that is too long
@@ -224,14 +353,15 @@ cut_long {console} {r} {held} {cuts} {line} held' cuts' f Q all before now mid l
 
 -- what was begun of a line, and nothing was written
 pub line_left : {console : UserConsole} {line : List ℕ} {cuts cuts' : List ℕ} (r : Rules) (held held' : Bool) (f : SessionFault) (old new : List Entry) (before now : Option (List ℕ))
-    → (f ≡ Fabric) ⊎ (f ≡ JournalFull) ⊎ (f ≡ OutOfMemory) → IsLeft console line cuts cuts' old new before now
+    → (w : Places) → IsOfTurn f w → IsLeft console line cuts cuts' old new before now
     → IsLineEndedBy console f r line held held' cuts cuts' old new before now
-line_left {console} {line} {cuts} {cuts'} r held held' f old new before now (inl e) l =
-    subst (λ g. IsLineEndedBy console g r line held held' cuts cuts' old new before now) (sym e) l
-line_left {console} {line} {cuts} {cuts'} r held held' f old new before now (inr (inl e)) l =
-    subst (λ g. IsLineEndedBy console g r line held held' cuts cuts' old new before now) (sym e) l
-line_left {console} {line} {cuts} {cuts'} r held held' f old new before now (inr (inr e)) l =
-    subst (λ g. IsLineEndedBy console g r line held held' cuts cuts' old new before now) (sym e) l
+line_left {console} {line} {cuts} {cuts'} r held held' Read old new before now w h l = absurd h
+line_left {console} {line} {cuts} {cuts'} r held held' Write old new before now w h l = absurd h
+line_left {console} {line} {cuts} {cuts'} r held held' InputFull old new before now w h l = absurd h
+line_left {console} {line} {cuts} {cuts'} r held held' (Broken breach) old new before now w h l = l
+line_left {console} {line} {cuts} {cuts'} r held held' Fabric old new before now w h l = l
+line_left {console} {line} {cuts} {cuts'} r held held' JournalFull old new before now w h l = l
+line_left {console} {line} {cuts} {cuts'} r held held' OutOfMemory old new before now w h l = l
 
 -- nothing was begun
 pub begun_none : {console : UserConsole} {line : List ℕ} (entries : List Entry) → HasBegun console line entries entries

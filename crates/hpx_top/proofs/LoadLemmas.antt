@@ -12,8 +12,8 @@ use Rattle.hpx_value.specs.declared.profile.Profile.{Profile}
 use Rattle.hpx_journal.specs.declared.entry.Entry.{Entry}
 use Rattle.hpx_journal.specs.Entries.{Frame, Rules}
 use Rattle.hpx_journal.specs.Pool.{NoneFails, prints_by, prints_of}
-use Rattle.hpx_journal.specs.Sessions.{IsSession, IsSettled, entries_of, shown}
-use Rattle.hpx_journal.specs.Whole.{IsLegal, replayed}
+use Rattle.hpx_journal.specs.Sessions.{BeginsWith, IsSession, IsSettled, entries_of, shown}
+use Rattle.hpx_journal.specs.Whole.{IsCarried, IsLegal, replayed, road_after}
 use Rattle.hpx_journal.proofs.Sessions.{entries_append, session_grows, shown_append}
 use Rattle.hpx_parcel.specs.Reading.{parcel_of}
 use Rattle.hpx_ports.specs.Told.{followed}
@@ -30,13 +30,15 @@ use Rattle.app_load.proofs.Texts.{asked_are, made_are}
 use Rattle.hpx_top.specs.Acts.{act_of}
 use Rattle.hpx_top.specs.declared.load.Tally.{Tally}
 use Rattle.hpx_top.specs.declared.session.SessionFault.{SessionFault}
-use Rattle.hpx_top.specs.declared.session.SessionFault.TheVariants.{Read, Write, Fabric, JournalFull, OutOfMemory, BadFrame, Strange, InputFull}
+use Rattle.hpx_top.specs.declared.session.SessionFault.TheVariants.{Read, Write, Fabric, JournalFull, OutOfMemory, Broken, InputFull}
+use Rattle.hpx_top.specs.Breaches.{breach_status}
 use Rattle.hpx_top.specs.declared.task.Workload.{Workload}
-use Rattle.hpx_top.specs.Loaded.{counted, load_fed, made_in, asked_in, number_told, AreLive, FeedsFirst, HasLoaded, IsBounded, IsCounted, IsLoading, IsSummed, IsSummedPlainly, IsUnloaded, WritesSo, WritesSoUpTo}
+use Rattle.hpx_top.specs.Loaded.{counted, load_fed, made_in, asked_in, number_told, AreFed, AreLive, FeedsFirst, HasLoaded, IsBounded, IsCounted, IsLoading, IsSummed, IsSummedPlainly, IsUnloaded, WritesSo, WritesSoUpTo}
 use Rattle.hpx_world.specs.Places.{Places}
 use Rattle.hpx_top.specs.Session.{rules, entries_in, lines_fed, Feeds, FeedsAtMost, WritesFront}
 use Rattle.hpx_top.specs.Statuses.{status_after}
 use Rattle.hpx_top.proofs.ActLemmas.{acting}
+use Rattle.hpx_top.proofs.ComputeLemmas.{breach_fails, breach_high}
 use Rattle.hpx_top.proofs.LineLemmas.{block_line, lines_fed_append}
 use Rattle.hpx_top.proofs.SessionLemmas.{fed_once}
 use Rattle.hpx_top.proofs.ShowLemmas.{entry_at, rest_at}
@@ -162,6 +164,11 @@ sum_fits t n less low high b =
 
 -- ---- one more line
 
+-- what holds of a journal holds of its front
+carried_front : (r : Rules) (road : List Frame) (xs ys : List Entry) → IsCarried r road (xs ++ ys) → IsCarried r road xs
+carried_front r road [] ys h = tt
+carried_front r road (x ∷ xs) ys h = (h.0, h.1, carried_front r (road_after road x) xs ys h.2)
+
 marked_append : (mark : ℕ) (xs ys : List (List ℕ)) → marked mark (xs ++ ys) ≡ marked mark xs ++ marked mark ys
 marked_append mark [] ys = refl
 marked_append mark (x ∷ xs) ys =
@@ -175,14 +182,20 @@ marked_last : (mark : ℕ) (xs : List (List ℕ)) (x : List ℕ) → is_long x �
 marked_last mark xs x short =
     marked_append mark xs (x ∷ []) ∙ ap (λ b. marked mark xs ++ (if b then [] else (mark ∷ x) ∷ [])) short
 
-session_fed : (r : Rules) (before : List Entry) (lines : List (List ℕ)) (blocks : List (List Entry)) → IsSession r before lines blocks
-    → lines_fed (entries_of blocks) ≡ lines
-session_fed r before [] [] h = refl
-session_fed r before (line ∷ lines) (es ∷ blocks) h =
+session_fed : (lines : List (List ℕ)) (blocks : List (List Entry)) → AreFed lines blocks → lines_fed (entries_of blocks) ≡ lines
+session_fed [] [] h = refl
+session_fed (line ∷ lines) (es ∷ blocks) h =
     lines_fed_append es (entries_of blocks)
-    ∙ (ap (λ xs. xs ++ lines_fed (entries_of blocks)) (block_line line es h.0.begins) ∙ ap (λ xs. line ∷ xs) (session_fed r (before ++ es) lines blocks h.1))
-session_fed r before [] (x ∷ xs) h = absurd h
-session_fed r before (x ∷ xs) [] h = absurd h
+    ∙ (ap (λ xs. xs ++ lines_fed (entries_of blocks)) (block_line line es h.0) ∙ ap (λ xs. line ∷ xs) (session_fed lines blocks h.1))
+session_fed [] (x ∷ xs) h = absurd h
+session_fed (x ∷ xs) [] h = absurd h
+
+fed_append : (lines : List (List ℕ)) (blocks : List (List Entry)) (line : List ℕ) (es : List Entry) → AreFed lines blocks → BeginsWith line es
+    → AreFed (lines ++ line ∷ []) (blocks ++ es ∷ [])
+fed_append [] [] line es h begins = (begins, tt)
+fed_append (x ∷ lines) (b ∷ blocks) line es h begins = (h.0, fed_append lines blocks line es h.1 begins)
+fed_append [] (x ∷ xs) line es h begins = absurd h
+fed_append (x ∷ xs) [] line es h begins = absurd h
 
 -- the next of the lines that are left
 pub next_is : (o : Option (List ℕ)) (line : List ℕ) (lines left : List (List ℕ)) → o ≡ Some line → IsNext o lines left → lines ≡ line ∷ left
@@ -194,7 +207,8 @@ loading_start r load t entries left empty all fed errors sum = record {
   before = [];
   lines_are = sym all;
   blocks = [];
-  session = tt;
+  begin = tt;
+  session = λ carried. tt;
   entries_are = empty;
   many = refl;
   counts = record {
@@ -235,11 +249,13 @@ module _ (r : Rules) (load : Workload) (some : 1 ≤ r.localities) (few : r.loca
         before = l.before ++ line ∷ [];
         lines_are = l.lines_are ∙ (ap (λ ls. l.before ++ ls) is ∙ sym (append_assoc l.before (line ∷ []) next));
         blocks = l.blocks ++ f.block ∷ [];
-        session = subst (λ ls. IsSession r [] ls (l.blocks ++ f.block ∷ [])) (sym (marked_last 115 l.before line (loading_short left line next old t l is)))
-            (session_grows r [] (marked 115 l.before) l.blocks (115 ∷ line) f.block l.session (record {
-              legal = subst (λ es. IsLegal r es) new_is f.legal;
+        begin = subst (λ ls. AreFed ls (l.blocks ++ f.block ∷ [])) (sym (marked_last 115 l.before line (loading_short left line next old t l is)))
+            (fed_append (marked 115 l.before) l.blocks (115 ∷ line) f.block l.begin f.begins);
+        session = λ carried. subst (λ ls. IsSession r [] ls (l.blocks ++ f.block ∷ [])) (sym (marked_last 115 l.before line (loading_short left line next old t l is)))
+            (session_grows r [] (marked 115 l.before) l.blocks (115 ∷ line) f.block (l.session (carried_front r [] old f.block (subst (IsCarried r []) f.is carried))) (record {
+              legal = subst (λ es. IsLegal r es) new_is (f.legal carried);
               begins = f.begins;
-              settled = subst (λ es. IsSettled r (replayed r es)) new_is f.settled;
+              settled = subst (λ es. IsSettled r (replayed r es)) new_is (f.settled carried);
             }));
         entries_are = new_is ∙ sym (entries_append l.blocks f.block);
         many = ap length shown_are ∙ (length-append texts (text ∷ []) ∙ (ap (λ k. k + 1) l.many ∙ sym (length-append l.before (line ∷ []))));
@@ -253,7 +269,7 @@ module _ (r : Rules) (load : Workload) (some : 1 ≤ r.localities) (few : r.loca
 
 loading_fed : (r : Rules) (load : Workload) (left : List (List ℕ)) (entries : List Entry) (t : Tally) (l : IsLoading r load left entries t)
     → lines_fed entries ≡ marked 115 l.before
-loading_fed r load left entries t l = ap lines_fed l.entries_are ∙ session_fed r [] (marked 115 l.before) l.blocks l.session
+loading_fed r load left entries t l = ap lines_fed l.entries_are ∙ session_fed (marked 115 l.before) l.blocks l.begin
 
 -- all lines, by those that were fed
 all_lines : (r : Rules) (load : Workload) (left : List (List ℕ)) (entries : List Entry) (t : Tally) (l : IsLoading r load left entries t)
@@ -278,15 +294,16 @@ first_fed_more r load left line next old new t l is short (inr f) = (
 )
 
 summed_fed : (r : Rules) (load : Workload) (entries : List Entry) (text : List ℕ) → IsSummed r load entries text → lines_fed entries ≡ load_fed r load
-summed_fed r load entries text s = ap lines_fed s.entries_are ∙ session_fed r [] (load_fed r load) s.blocks s.session
+summed_fed r load entries text s = ap lines_fed s.entries_are ∙ session_fed (load_fed r load) s.blocks s.begin
 
 -- ---- what it comes to
 
 pub summed_is : (r : Rules) (load : Workload) (entries : List Entry) (t : Tally) (lines : List AuditLine) (text : List ℕ) → IsLoading r load [] entries t
-    → IsAudit r entries lines → AreOrdered lines → text ≡ summary_of load.lines t.errors (length lines) t.sum → IsSummed r load entries text
+    → (IsCarried r [] entries → IsAudit r entries lines) → AreOrdered lines → text ≡ summary_of load.lines t.errors (length lines) t.sum → IsSummed r load entries text
 summed_is r load entries t lines text l audit ordered is = record {
   blocks = l.blocks;
-  session = subst (λ ls. IsSession r [] (marked 115 ls) l.blocks) (sym (l.lines_are ∙ append-nil l.before)) l.session;
+  begin = subst (λ ls. AreFed (marked 115 ls) l.blocks) (sym (l.lines_are ∙ append-nil l.before)) l.begin;
+  session = λ carried. subst (λ ls. IsSession r [] (marked 115 ls) l.blocks) (sym (l.lines_are ∙ append-nil l.before)) (l.session carried);
   entries_are = l.entries_are;
   live = length lines;
   objects = record { lines = lines; audit = audit; ordered = ordered; many = refl };
@@ -295,12 +312,12 @@ summed_is r load entries t lines text l audit ordered is = record {
 }
 
 -- where no action failed, one plain space says so
-pub summed_plainly : (n : ℕ) (p : Profile) (load : Workload) (entries : List Entry) (text : List ℕ) → 1 ≤ n → n ≤ 64 → load.lines ≤ 20000 → NoneFails entries
+pub summed_plainly : (n : ℕ) (p : Profile) (load : Workload) (entries : List Entry) (text : List ℕ) → 1 ≤ n → n ≤ 64 → load.lines ≤ 20000 → IsCarried (rules_of act_of n p) [] entries → NoneFails entries
     → IsSummed (rules_of act_of n p) load entries text → IsSummedPlainly (rules_of act_of n p) load entries text
-summed_plainly n p load entries text some few lines calm s =
+summed_plainly n p load entries text some few lines carried calm s =
     let fine = subst NoneFails s.entries_are calm in
-    let made = made_are load.start load.lines n acting p.credit_log p.credit_limit parcel_of some few lines s.blocks (spells_well act_of n p) fine s.session in
-    let asked = asked_are load.start load.lines n acting p.credit_log p.credit_limit parcel_of some few lines s.blocks (spells_well act_of n p) fine s.session in
+    let made = made_are load.start load.lines n acting p.credit_log p.credit_limit parcel_of some few lines s.blocks (spells_well act_of n p) fine (s.session carried) in
+    let asked = asked_are load.start load.lines n acting p.credit_log p.credit_limit parcel_of some few lines s.blocks (spells_well act_of n p) fine (s.session carried) in
     record {
       live = s.live;
       objects = s.objects;
@@ -309,6 +326,17 @@ summed_plainly n p load entries text some few lines calm s =
     }
 
 -- ---- where it ends
+
+-- a line could not be fed, or not be done
+pub unloaded_before : (f : SessionFault) (r : Rules) (load : Workload) (es : List Entry) (old new : Option (List ℕ)) → f ≢ Read → f ≢ Write → f ≢ InputFull → new ≡ old
+    → IsUnloaded f r load es old new
+unloaded_before Read r load es old new read write full same = absurd (read refl)
+unloaded_before Write r load es old new read write full same = absurd (write refl)
+unloaded_before InputFull r load es old new read write full same = absurd (full refl)
+unloaded_before (Broken breach) r load es old new read write full same = same
+unloaded_before Fabric r load es old new read write full same = same
+unloaded_before JournalFull r load es old new read write full same = same
+unloaded_before OutOfMemory r load es old new read write full same = same
 
 unwritten : (r : Rules) (load : Workload) (Tells : List ℕ → Type 0) (s : ℕ) (entries : List Entry) (old new : Option (List ℕ)) → s ≢ 0 → s ≢ 3
     → FeedsFirst r load entries → new ≡ old → HasLoaded r load Tells s entries old new
@@ -339,8 +367,8 @@ has_loaded (Err InputFull) r load Tells es old new tells fed ok err = absurd err
 has_loaded (Err Fabric) r load Tells es old new tells fed ok err = unwritten r load Tells 4 es old new (λ s. absurd (omega (arith, s))) (λ s. absurd (omega (arith, s))) fed err
 has_loaded (Err JournalFull) r load Tells es old new tells fed ok err = unwritten r load Tells 5 es old new (λ s. absurd (omega (arith, s))) (λ s. absurd (omega (arith, s))) fed err
 has_loaded (Err OutOfMemory) r load Tells es old new tells fed ok err = unwritten r load Tells 6 es old new (λ s. absurd (omega (arith, s))) (λ s. absurd (omega (arith, s))) fed err
-has_loaded (Err BadFrame) r load Tells es old new tells fed ok err = unwritten r load Tells 7 es old new (λ s. absurd (omega (arith, s))) (λ s. absurd (omega (arith, s))) fed err
-has_loaded (Err Strange) r load Tells es old new tells fed ok err = unwritten r load Tells 8 es old new (λ s. absurd (omega (arith, s))) (λ s. absurd (omega (arith, s))) fed err
+has_loaded (Err (Broken breach)) r load Tells es old new tells fed ok err =
+    unwritten r load Tells (breach_status breach) es old new (breach_fails breach) (λ s. absurd (let high = breach_high breach in omega (arith, high, s))) fed err
 
 -- without memory for a world nothing was done
 pub loaded_none : {T : Type 0} (res : Result T SessionFault) (r : Rules) (load : Workload) (Tells : List ℕ → Type 0) (old new : Option (List ℕ)) → res ≡ Err OutOfMemory

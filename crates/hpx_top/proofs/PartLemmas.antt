@@ -12,6 +12,7 @@ use Rattle.hpx_journal.specs.Whole.{start, IsLegal, replayed}
 use Rattle.hpx_journal.specs.Pool.{NoneFails, prints_of}
 use Rattle.hpx_journal.specs.Sessions.{BeginsWith, IsBlock, IsSession, entries_of, shown as shown_blocks}
 use Rattle.hpx_journal.proofs.Fronts.{legal_front}
+use Rattle.hpx_journal.proofs.Grow.{legal_carried}
 use Rattle.hpx_journal.proofs.Reduced.{none_front}
 use Rattle.hpx_journal.proofs.Sessions.{quiet_settled}
 use Rattle.hpx_steps.specs.Rest.{rules_of}
@@ -317,7 +318,7 @@ plain_part console r before line lines part parts (IsFedLine short is) p legal n
     let did : Does r (mark_of console ∷ line) false (Typed Fed) before part.entries = subst (λ h. Does r (mark_of console ∷ line) false h before part.entries) is p.did in
     let text : IsOwn r false (Typed Fed) (before ++ part.entries) part.own = subst (λ h. IsOwn r false h (before ++ part.entries) part.own) is p.own in
     plain_fed console r before line lines part parts is
-    (record { legal = legal; begins = did.0; settled = quiet_settled r (replayed r (before ++ part.entries)) did.1.quiet }) text next
+    (record { legal = legal; begins = did.0; settled = quiet_settled r (replayed r (before ++ part.entries)) (did.1.rest (legal_carried r (start (roots r.localities)) (before ++ part.entries) legal)).quiet }) text next
 
 plain_parts : (console : UserConsole) (r : Rules) (before : List Entry) (lines : List (List ℕ)) (parts : List Part) → none_own console lines ≡ false
     → AreParts console r false before lines parts → IsLegal r (before ++ journal_of parts) → IsPlain console r before lines parts
@@ -436,10 +437,11 @@ plain_text : (console : UserConsole) (n : ℕ) (p : Profile) (first : List Entry
 plain_text Accumulator n p first lines parts some few short own opened legal calm plain =
     let r = rules_of act_of n p in
     let blocks = blocks_of Accumulator lines parts in
+    let front : IsLegal r first = legal_front r (start (roots r.localities)) first (journal_of parts) legal in
     let block : IsBlock r [] opening first = record {
-      legal = legal_front r (start (roots r.localities)) first (journal_of parts) legal;
+      legal = front;
       begins = opened.0;
-      settled = quiet_settled r (replayed r first) opened.1.quiet;
+      settled = quiet_settled r (replayed r first) (opened.1.rest (legal_carried r (start (roots r.localities)) first front)).quiet;
     } in
     sym plain.text
     ∙ (accumulator_woven lines (shown_blocks blocks)

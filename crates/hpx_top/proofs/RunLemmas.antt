@@ -1,22 +1,24 @@
 -- What is telling of faults, telling of statuses.
-use Rattle.std.specs.Prelude.{Result, Ok, Err, OnOk, IfErr, IfSome, ⊤, ◌≢◌, ◌==◌, if◌then◌else◌}
+use Rattle.std.specs.Prelude.{slice_get, Bool, true, false, not, ◌&&◌, Result, Ok, Err, OnOk, IfErr, IfSome, ⊤, ◌≢◌, ◌==◌, if◌then◌else◌}
 use Rattle.std.proofs.Common.{ℕ, List, [], length, ◌≡◌, ◌≤◌, ◌+◌, ◌-◌, ◌⊎◌, Option, Some, None, refl, sym, ap, subst, ◌∙◌, inl, inr, arith}
-use Rattle.hpx_journal.specs.Entries.{Frame, Rules}
+use Rattle.hpx_journal.specs.Entries.{Rules}
 use Rattle.hpx_value.specs.declared.profile.Profile.{Profile}
 use Rattle.hpx_journal.specs.Pool.{NoneFails}
 use Rattle.hpx_journal.specs.Weights.{HasRoom}
 use Rattle.hpx_journal.specs.Whole.{IsCarried}
-use Rattle.hpx_ports.specs.declared.fabric.Wire.{Wire}
 use Rattle.hpx_steps.specs.Limits.{IsWithin}
+use Rattle.hpx_steps.specs.Rest.{StandsAtRest}
+use Rattle.hpx_tables.specs.Tables.{Tables}
 use Rattle.hpx_world.specs.Quiet.{IsQuiet}
 use Rattle.hpx_world.specs.Audit.{audit_lines, IsAudit, StandWhereTold}
-use Rattle.hpx_world.specs.Away.{IsCarrying}
 use Rattle.hpx_world.specs.Promises.{KeepsPromises}
 use Rattle.hpx_ports.specs.Faults.{Rose}
 use Rattle.hpx_world.specs.Places.{Places}
 use Rattle.hpx_top.specs.declared.session.SessionFault.{SessionFault}
-use Rattle.hpx_top.specs.declared.session.SessionFault.TheVariants.{Read, Write, Fabric, JournalFull, OutOfMemory, BadFrame, Strange, InputFull}
-use Rattle.hpx_top.specs.Ends.{IsWhole, IsBegun, IsBrokenOff, IsShort, IsEndedBy, IsReadFrom, IsReadUp, IsReadOn}
+use Rattle.hpx_top.specs.declared.session.SessionFault.TheVariants.{Read, Write, Fabric, JournalFull, OutOfMemory, Broken, InputFull}
+use Rattle.hpx_top.specs.declared.breach.Breach.TheVariants.{BadFrame, Strange, EarlyEnd}
+use Rattle.hpx_top.specs.Breaches.{IsShown, IsShownIn, NoBreach}
+use Rattle.hpx_top.specs.Ends.{IsWhole, IsBegun, IsBroken, IsBrokenOff, IsShort, IsEndedBy, IsReadFrom, IsReadUp, IsReadOn}
 use Rattle.hpx_top.specs.Runs.{Ports, HasCause, HasEnded, HasServed, IsLawful, ports_of}
 use Rattle.hpx_top.specs.Session.{rules, IsRested, NoneRefused, Telling, TellsNone, ByJournal}
 use Rattle.hpx_top.specs.declared.consoles.UserConsole.{UserConsole}
@@ -34,30 +36,33 @@ answer_at n =
     else if n == 4 then Err Fabric
     else if n == 5 then Err JournalFull
     else if n == 6 then Err OutOfMemory
-    else if n == 7 then Err BadFrame
-    else if n == 8 then Err Strange
     else Err InputFull
 
-comes_of : (r : Result ⊤ SessionFault) → r ≡ answer_at (status_after r)
-comes_of (Ok x) = refl
-comes_of (Err Read) = refl
-comes_of (Err Write) = refl
-comes_of (Err Fabric) = refl
-comes_of (Err JournalFull) = refl
-comes_of (Err OutOfMemory) = refl
-comes_of (Err BadFrame) = refl
-comes_of (Err Strange) = refl
-comes_of (Err InputFull) = refl
+-- a status with which no breach is told
+abbrev pub is_plain : ℕ → Bool
+is_plain n = not (n == 7) && not (n == 8)
 
-pub at : (r : Result ⊤ SessionFault) (n : ℕ) → status_after r ≡ n → r ≡ answer_at n
-at r n s = comes_of r ∙ ap answer_at s
+comes_of : (r : Result ⊤ SessionFault) → is_plain (status_after r) ≡ true → r ≡ answer_at (status_after r)
+comes_of (Ok x) p = refl
+comes_of (Err Read) p = refl
+comes_of (Err Write) p = refl
+comes_of (Err Fabric) p = refl
+comes_of (Err JournalFull) p = refl
+comes_of (Err OutOfMemory) p = refl
+comes_of (Err (Broken (BadFrame to place why))) p = absurd (let no : false ≡ true = p in cc)
+comes_of (Err (Broken (Strange to rule object kept))) p = absurd (let no : false ≡ true = p in cc)
+comes_of (Err (Broken (EarlyEnd sent taken))) p = absurd (let no : false ≡ true = p in cc)
+comes_of (Err InputFull) p = refl
+
+pub at : (r : Result ⊤ SessionFault) (n : ℕ) → status_after r ≡ n → is_plain n ≡ true → r ≡ answer_at n
+at r n s p = comes_of r (ap is_plain s ∙ p) ∙ ap answer_at s
 
 -- status 0 comes of no fault
 pub ended_well : (r : Result ⊤ SessionFault) (P : Type 0) → status_after r ≡ 0 → OnOk r P → P
-ended_well r P s h = subst (λ q. OnOk q P) (at r 0 s) h
+ended_well r P s h = subst (λ q. OnOk q P) (at r 0 s refl) h
 
-by_status : (r : Result ⊤ SessionFault) (P : SessionFault → Type 0) (n : ℕ) → status_after r ≡ n → IfErr r P → IfErr (answer_at n) P
-by_status r P n s h = subst (λ q. IfErr q P) (at r n s) h
+by_status : (r : Result ⊤ SessionFault) (P : SessionFault → Type 0) (n : ℕ) → status_after r ≡ n → is_plain n ≡ true → IfErr r P → IfErr (answer_at n) P
+by_status r P n s p h = subst (λ q. IfErr q P) (at r n s p) h
 
 last : (r : Result ⊤ SessionFault) → status_after r ≤ 9
 last (Ok x) = omega arith
@@ -66,12 +71,32 @@ last (Err Write) = omega arith
 last (Err Fabric) = omega arith
 last (Err JournalFull) = omega arith
 last (Err OutOfMemory) = omega arith
-last (Err BadFrame) = omega arith
-last (Err Strange) = omega arith
+last (Err (Broken (BadFrame to place why))) = omega arith
+last (Err (Broken (Strange to rule object kept))) = omega arith
+last (Err (Broken (EarlyEnd sent taken))) = omega arith
 last (Err InputFull) = omega arith
 
-pub status_is : (r : Result ⊤ SessionFault) → r ≢ Err BadFrame → r ≢ Err Strange → IsStatus (status_after r)
-status_is r frame parcel = record { last = last r; no_frame = λ s. frame (at r 7 s); no_parcel = λ s. parcel (at r 8 s) }
+-- a run that ends with no breach
+pub status_is : (r : Result ⊤ SessionFault) → IfErr r NoBreach → IsStatus (status_after r)
+status_is (Ok x) none = record { last = omega arith; no_frame = λ s. absurd (omega arith); no_parcel = λ s. absurd (omega arith) }
+status_is (Err Read) none = record { last = omega arith; no_frame = λ s. absurd (omega arith); no_parcel = λ s. absurd (omega arith) }
+status_is (Err Write) none = record { last = omega arith; no_frame = λ s. absurd (omega arith); no_parcel = λ s. absurd (omega arith) }
+status_is (Err Fabric) none = record { last = omega arith; no_frame = λ s. absurd (omega arith); no_parcel = λ s. absurd (omega arith) }
+status_is (Err JournalFull) none = record { last = omega arith; no_frame = λ s. absurd (omega arith); no_parcel = λ s. absurd (omega arith) }
+status_is (Err OutOfMemory) none = record { last = omega arith; no_frame = λ s. absurd (omega arith); no_parcel = λ s. absurd (omega arith) }
+status_is (Err (Broken breach)) none = absurd none
+status_is (Err InputFull) none = record { last = omega arith; no_frame = λ s. absurd (omega arith); no_parcel = λ s. absurd (omega arith) }
+
+-- what a world shows, there is a world for
+pub shown_in : (r : Result ⊤ SessionFault) (w : Places) → IfErr r (λ f. IsShown f w) → IfErr r (λ f. IsShownIn f (Some w))
+shown_in (Ok x) w h = tt
+shown_in (Err Read) w h = tt
+shown_in (Err Write) w h = tt
+shown_in (Err Fabric) w h = tt
+shown_in (Err JournalFull) w h = tt
+shown_in (Err OutOfMemory) w h = tt
+shown_in (Err (Broken breach)) w h = (w, refl, h)
+shown_in (Err InputFull) w h = tt
 
 -- ---- causes
 
@@ -82,12 +107,12 @@ pub cause_of : (r : Result ⊤ SessionFault) (world : Option Places) (x z : Port
     → (r ≢ Err Read → z.read_faults ≡ x.read_faults) → (r ≢ Err Write → z.write_faults ≡ x.write_faults) → (r ≢ Err Fabric → z.frame_faults ≡ x.frame_faults)
     → z.taken ≤ x.taken + 67108864 → HasCause (status_after r) world x z
 cause_of r world x z read write frame full room input read_only write_only frame_only limit = record {
-  read = λ s. read (at r 2 s);
-  write = λ s. write (at r 3 s);
-  frame = λ s. frame (at r 4 s);
-  full = λ s. full (at r 5 s);
+  read = λ s. read (at r 2 s refl);
+  write = λ s. write (at r 3 s refl);
+  frame = λ s. frame (at r 4 s refl);
+  full = λ s. full (at r 5 s refl);
   room = λ no. room (λ e. no (ap status_after e));
-  input = λ s. input (at r 9 s);
+  input = λ s. input (at r 9 s refl);
   read_only = λ no. read_only (λ e. no (ap status_after e));
   write_only = λ no. write_only (λ e. no (ap status_after e));
   frame_only = λ no. frame_only (λ e. no (ap status_after e));
@@ -126,8 +151,8 @@ cause_unread s world left taken reads old new writes writes' frames frames' no_r
   limit = omega arith;
 }
 
-pub no_status : (r : Result ⊤ SessionFault) (n : ℕ) → r ≢ answer_at n → status_after r ≢ n
-no_status r n never s = never (at r n s)
+pub no_status : (r : Result ⊤ SessionFault) (n : ℕ) → is_plain n ≡ true → r ≢ answer_at n → status_after r ≢ n
+no_status r n p never s = never (at r n s p)
 
 -- ---- texts
 
@@ -145,11 +170,29 @@ served_of {console} rs cuts r w input x z reads whole read_up begun ended short 
       whole = λ s. ended_well r _ s whole;
       read_up = λ s. ended_well r _ s read_up;
       begun = begun;
-      between_lines = λ s. between s (λ two. tied (by_status r P 2 two ended) (read_on (inl (at r 2 two)))) (λ nine. tied (by_status r P 9 nine ended) (read_on (inr (at r 9 nine))));
-      refused = λ s. between s (λ four. by_status r P 4 four ended) (λ five. by_status r P 5 five ended);
-      short = λ s. short (at r 6 s);
+      between_lines = λ s. between s (λ two. tied (by_status r P 2 two refl ended) (read_on (inl (at r 2 two refl)))) (λ nine. tied (by_status r P 9 nine refl ended) (read_on (inr (at r 9 nine refl))));
+      refused = λ s. refused_at r s ended;
+      short = λ s. short (at r 6 s refl);
     }
   where
+    none_of : (n : ℕ) → n ≢ 4 → n ≢ 5 → n ≢ 7 → n ≢ 8 → (n ≡ 4) ⊎ (n ≡ 5) ⊎ (n ≡ 7) ⊎ (n ≡ 8) → ⊥
+    none_of n four five seven eight (inl e) = four e
+    none_of n four five seven eight (inr (inl e)) = five e
+    none_of n four five seven eight (inr (inr (inl e))) = seven e
+    none_of n four five seven eight (inr (inr (inr e))) = eight e
+
+    refused_at : (q : Result ⊤ SessionFault) → (status_after q ≡ 4) ⊎ (status_after q ≡ 5) ⊎ (status_after q ≡ 7) ⊎ (status_after q ≡ 8)
+        → IfErr q (λ f. IsEndedBy console f (ByJournal rs cuts) input z.left w.journal.entries x.text z.text)
+        → IsBroken console (ByJournal rs cuts) input z.left w.journal.entries x.text z.text
+    refused_at (Err Fabric) s h = h
+    refused_at (Err JournalFull) s h = h
+    refused_at (Err (Broken breach)) s h = h
+    refused_at (Ok t) s h = absurd (none_of 0 (omega arith) (omega arith) (omega arith) (omega arith) s)
+    refused_at (Err Read) s h = absurd (none_of 2 (omega arith) (omega arith) (omega arith) (omega arith) s)
+    refused_at (Err Write) s h = absurd (none_of 3 (omega arith) (omega arith) (omega arith) (omega arith) s)
+    refused_at (Err OutOfMemory) s h = absurd (none_of 6 (omega arith) (omega arith) (omega arith) (omega arith) s)
+    refused_at (Err InputFull) s h = absurd (none_of 9 (omega arith) (omega arith) (omega arith) (omega arith) s)
+
     between : {A B C : Type 0} → A ⊎ B → (A → C) → (B → C) → C
     between (inl a) f g = f a
     between (inr b) f g = g b
@@ -167,37 +210,46 @@ served_none {console} telling r input x e uncut h = subst (λ q. HasServed conso
   read_up = λ s. absurd (omega arith);
   begun = begun_nothing telling input [] x.text x.text refl uncut refl;
   between_lines = λ s. absurd (neither 6 2 9 (omega arith) (omega arith) s);
-  refused = λ s. absurd (neither 6 4 5 (omega arith) (omega arith) s);
+  refused = λ s. absurd (none_of 6 refl s);
   short = λ s. tt;
 })
   where
+    none_of : (n : ℕ) → n ≡ 6 → (n ≡ 4) ⊎ (n ≡ 5) ⊎ (n ≡ 7) ⊎ (n ≡ 8) → ⊥
+    none_of n six (inl e) = absurd (omega (arith, six, e))
+    none_of n six (inr (inl e)) = absurd (omega (arith, six, e))
+    none_of n six (inr (inr (inl e))) = absurd (omega (arith, six, e))
+    none_of n six (inr (inr (inr e))) = absurd (omega (arith, six, e))
+
     neither : (a b c : ℕ) → a ≢ b → a ≢ c → (a ≡ b) ⊎ (a ≡ c) → ⊥
     neither a b c no_b no_c (inl e) = no_b e
     neither a b c no_b no_c (inr e) = no_c e
 
 -- ---- worlds
 
--- what the law of a world tells, where its fabric carries
-pub lawful_of : (w : Places) (flight : Option (List Frame)) (trace : Option (List Wire)) → IsWithin w.journal.entries
+-- what the law of a world tells
+pub lawful_of : (w : Places) → IsWithin w.journal.entries → ((k : ℕ) (t : Tables) → slice_get w.nodes k ≡ Some t → StandsAtRest (rules w) t w.journal.entries)
     → (IsCarried (rules w) [] w.journal.entries → KeepsPromises (rules w) w.journal.entries)
     → (IsCarried (rules w) [] w.journal.entries → IsAudit (rules w) w.journal.entries (audit_lines w.nodes))
     → (IsCarried (rules w) [] w.journal.entries → IsQuiet w.nodes w.hand → StandWhereTold (rules w) w.journal.entries (audit_lines w.nodes))
-    → IsCarrying (rules w) w.hand flight trace w.journal.entries → IsLawful w flight trace
-lawful_of w flight trace within promises audit stand carrying = record {
-  granted = λ ample. all_granted (length w.nodes) w.profile w.journal.entries ample within.entries (promises carrying.carried);
-  promises = promises carrying.carried;
+    → IsLawful w
+lawful_of w within stands promises audit stand = record {
   within = within;
-  audit = audit carrying.carried;
-  stand = stand carrying.carried;
-  carrying = carrying;
+  stands = stands;
+  granted = λ carried ample. all_granted (length w.nodes) w.profile w.journal.entries ample within.entries (promises carried);
+  promises = promises;
+  audit = audit;
+  stand = stand;
 }
 
 -- where no ask was refused, no action failed
-pub lawful_calm : (w : Places) (flight : Option (List Frame)) (trace : Option (List Wire)) (p : Profile) → w.profile ≡ p → IsLawful w flight trace
+pub lawful_calm : (w : Places) (p : Profile) → w.profile ≡ p → IsLawful w → IsCarried (rules w) [] w.journal.entries
     → NoneRefused p w.journal.entries → NoneFails w.journal.entries
-lawful_calm w flight trace p tuned law none =
-    none_fails (length w.nodes) w.profile w.journal.entries (subst (λ q. NoneRefused q w.journal.entries) (sym tuned) none) law.within.entries law.promises
+lawful_calm w p tuned law carried none =
+    none_fails (length w.nodes) w.profile w.journal.entries (subst (λ q. NoneRefused q w.journal.entries) (sym tuned) none) law.within.entries (law.promises carried)
 
-pub ended_of : (r : Result ⊤ SessionFault) (w : Places) → KeepsPromises (rules w) w.journal.entries → OnOk r (IsRested w) → OnOk r (HasEnded w)
-ended_of r w promises rest =
-    on_ok r (IsRested w) (HasEnded w) (λ x is rested. record { rest = rested; done = all_done (length w.nodes) w.profile w.journal.entries promises rested.rest }) rest
+pub ended_of : (r : Result ⊤ SessionFault) (w : Places) → (IsCarried (rules w) [] w.journal.entries → KeepsPromises (rules w) w.journal.entries) → OnOk r (IsRested w)
+    → OnOk r (HasEnded w)
+ended_of r w promises rest = on_ok r (IsRested w) (HasEnded w) (λ x is rested. record {
+  rest = rested;
+  done = λ carried. all_done (length w.nodes) w.profile w.journal.entries (promises carried) (rested.rest.rest carried);
+}) rest

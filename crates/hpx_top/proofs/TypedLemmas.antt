@@ -5,7 +5,7 @@ use Rattle.std.proofs.Common.{ℕ, List, [], ◌∷◌, ◌++◌, ◌≡◌, len
 use Rattle.std.proofs.lemmas.List.{drop_at}
 use Rattle.hpx_journal.specs.declared.entry.Entry.{Entry}
 use Rattle.hpx_journal.specs.Entries.{Rules}
-use Rattle.hpx_journal.specs.Whole.{replayed}
+use Rattle.hpx_journal.specs.Whole.{IsCarried, replayed}
 use Rattle.hpx_journal.specs.Pool.{prints_of}
 use Rattle.hpx_journal.specs.Sessions.{FeedsNothing}
 use Rattle.hpx_ports.specs.Told.{followed}
@@ -38,14 +38,14 @@ all_append P (x ∷ xs) ys h g = (h.0, all_append P xs ys h.1 g)
 
 -- a line was fed, and locality 0 alone went on
 pub fed_back : (console : UserConsole) (r : Rules) (text : List ℕ) (held : Bool) (old mid new : List Entry) → held ≡ true → IsFed text old new → GrowsAtHome old mid → GrowsAtHome mid new
-    → WaitsBusy (replayed r new) → GrowsBy (Does r text held (Typed Fed) old) old new
+    → (IsCarried r [] new → WaitsBusy (replayed r new)) → GrowsBy (Does r text held (Typed Fed) old) old new
 fed_back console r text held old mid new on f g h waits =
     let more = g.more ++ h.more in
     let is : new ≡ old ++ more = h.is ∙ (ap (λ es. es ++ h.more) g.is ∙ append_assoc old g.more h.more) in
     let same : f.block ≡ more = same_more old f.block more (sym f.is ∙ is) in
     let back : IsHeldBack r old f.block = record {
       home = subst StaysHome (sym same) (all_append (λ e. (e.at ≡ 0) × HasNoFrame e.event) g.more h.more g.home h.home);
-      waits = subst (λ es. WaitsBusy (replayed r es)) f.is waits;
+      waits = subst (λ es. IsCarried r [] es → WaitsBusy (replayed r es)) f.is waits;
     } in
     record { more = f.block; is = f.is; of = subst (λ b. Does r text b (Typed Fed) old f.block) (sym on) (f.begins, back) }
 
@@ -58,7 +58,7 @@ fed_all r text held old new off f rest = record {
 }
 
 -- steps were made, and locality 0 alone went on
-pub turned_back : (r : Rules) (n made : ℕ) (old mid new : List Entry) → MakesTurns r n made old mid → GrowsAtHome mid new → IsUnfed old mid → IsUnfed mid new → WaitsBusy (replayed r new)
+pub turned_back : (r : Rules) (n made : ℕ) (old mid new : List Entry) → MakesTurns r n made old mid → GrowsAtHome mid new → IsUnfed old mid → IsUnfed mid new → (IsCarried r [] new → WaitsBusy (replayed r new))
     → GrowsBy (IsTurned r n old) old new
 turned_back r n made old mid new turns home first second waits =
     let more = first.more ++ second.more in
@@ -73,7 +73,7 @@ turned_back r n made old mid new turns home first second waits =
         turns = turns;
         later = home.more;
         is = sym is ∙ home.is;
-        back = record { home = home.home; waits = subst (λ es. WaitsBusy (replayed r es)) home.is waits };
+        back = record { home = home.home; waits = subst (λ es. IsCarried r [] es → WaitsBusy (replayed r es)) home.is waits };
       };
     }
 

@@ -1,5 +1,5 @@
 -- Why a world that several threads drained stands still, for a session.
-use Rattle.std.proofs.Common.{ℕ, Option, Some, ◌≡◌, refl, subst}
+use Rattle.std.proofs.Common.{ℕ, Option, Some, None, ◌≡◌, refl, subst}
 use Rattle.hpx_value.specs.declared.acts.Acts.{Ghosts}
 use Rattle.hpx_value.specs.declared.acts.Done.{Done}
 use Rattle.hpx_journal.specs.Weights.{HasRoom}
@@ -8,6 +8,9 @@ use Rattle.hpx_world.specs.declared.turns.WorldFault.{WorldFault}
 use Rattle.hpx_world.specs.declared.turns.WorldFault.TheVariants as faults
 use Rattle.hpx_world.specs.Sound.{Meaning}
 use Rattle.hpx_site.specs.Seen.{Seen}
+use Rattle.hpx_top.specs.declared.breach.Breach.{Breach}
+use Rattle.hpx_top.specs.Breaches.{breach_of, Shows}
+use Rattle.hpx_top.proofs.WorldFaults.{site_shows}
 use Rattle.hpx_site.specs.Held.{Held, IsCalm, IsCause, LeavesRoom}
 
 calm_unless : {A : Type 0} {g : Ghosts A} (fault : WorldFault A g) → (fault ≡ faults.Fabric → ⊥) → IsCalm (Some fault)
@@ -18,6 +21,15 @@ calm_unless (faults.Strange to rule object kept) not = tt
 calm_unless (faults.EarlyEnd s t) not = tt
 calm_unless (faults.OutOfMemory v) not = tt
 calm_unless (faults.NotRun job) not = tt
+
+breach_room : {A : Type 0} {g : Ghosts A} (is : Seen) (fault : WorldFault A g) (b : Breach) → breach_of fault ≡ Some b → LeavesRoom is fault → HasRoom is.world.journal.entries
+breach_room is (faults.BadFrame to place why) b e room = room
+breach_room is (faults.Strange to rule object kept) b e room = room
+breach_room is (faults.EarlyEnd sent taken) b e room = room
+breach_room is faults.Fabric b e room = room
+breach_room is (faults.JournalFull entries weight undone) b e room = absurd (let no : ◌≡◌ {A = Option Breach} None (Some b) = e in cc)
+breach_room is (faults.OutOfMemory undone) b e room = room
+breach_room is (faults.NotRun job) b e room = absurd (let no : ◌≡◌ {A = Option Breach} None (Some b) = e in cc)
 
 module _ {A : Type 0} {g : Ghosts A} (act_of : Meaning) (was is : Seen) (fault : WorldFault A g) (h : Held act_of was is (Some fault)) where
   pub site_rose : fault ≡ faults.Fabric → Rose was.faults is.faults
@@ -42,3 +54,9 @@ module _ {A : Type 0} {g : Ghosts A} (act_of : Meaning) (was is : Seen) (fault :
   site_full n w u e =
       let cause : IsCause {A = A} {g = g} was is (faults.JournalFull n w u) = subst (λ f. IsCause was is f) e h.cause in
       cause.full
+
+  pub site_breach_room : (b : Breach) → breach_of fault ≡ Some b → HasRoom is.world.journal.entries
+  site_breach_room b e = breach_room is fault b e h.room
+
+  pub site_breach : (b : Breach) → breach_of fault ≡ Some b → Shows b is.world
+  site_breach b e = site_shows was is fault h.cause b e

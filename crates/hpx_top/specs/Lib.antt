@@ -8,6 +8,7 @@ pub mod Parts
 pub mod Owned
 pub mod Session
 pub mod Ends
+pub mod Breaches
 pub mod Statuses
 pub mod Computed
 pub mod Loaded

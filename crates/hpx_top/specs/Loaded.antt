@@ -3,7 +3,8 @@ use Rattle.std.specs.Prelude.{ℕ, ℤ, pos, negsuc, Option, List, [], ◌∷◌
 use Rattle.std.specs.List.{concat}
 use Rattle.hpx_journal.specs.declared.entry.Entry.{Entry}
 use Rattle.hpx_journal.specs.Entries.{Rules}
-use Rattle.hpx_journal.specs.Sessions.{IsSession, entries_of, shown}
+use Rattle.hpx_journal.specs.Sessions.{BeginsWith, IsSession, entries_of, shown}
+use Rattle.hpx_journal.specs.Whole.{IsCarried}
 use Rattle.hpx_ports.specs.Told.{followed}
 use Rattle.hpx_world.specs.Audit.{AreOrdered, IsAudit}
 use Rattle.hpx_world.specs.declared.audit.AuditLine.{AuditLine}
@@ -43,17 +44,25 @@ made_in lines blocks = take lines (drop 8 (map concat (shown blocks)))
 abbrev pub asked_in : ℕ → List (List Entry) → List (List ℕ)
 asked_in lines blocks = drop (8 + lines) (map concat (shown blocks))
 
--- so many objects have credit that is out: an audit has one line for each
+-- so many objects have credit that is out: where each frame that was accepted had been sent, an audit has one line for each
 pub record AreLive (r : Rules) (entries : List Entry) (live : ℕ) : Type 0 where
   pub lines : List AuditLine
-  pub audit : IsAudit r entries lines
+  pub audit : IsCarried r [] entries → IsAudit r entries lines
   pub ordered : AreOrdered lines
   pub many : live ≡ length lines
 
--- all lines were fed, each once nothing was under way, and the journal has no more; what they print comes to this text
+-- these lines were fed, each at the head of its block
+abbrev pub AreFed : List (List ℕ) → List (List Entry) → Type 0
+AreFed [] [] = Unit {0}
+AreFed (line ∷ lines) (es ∷ blocks) = BeginsWith line es × AreFed lines blocks
+AreFed _ _ = ⊥
+
+-- all lines were fed, and the journal has no more; what they print comes to this text; where each frame that was accepted had been sent,
+-- each line was fed once nothing was under way
 pub record IsSummed (r : Rules) (load : Workload) (entries : List Entry) (text : List ℕ) : Type 0 where
   pub blocks : List (List Entry)
-  pub session : IsSession r [] (load_fed r load) blocks
+  pub begin : AreFed (load_fed r load) blocks
+  pub session : IsCarried r [] entries → IsSession r [] (load_fed r load) blocks
   pub entries_are : entries ≡ entries_of blocks
   pub live : ℕ
   pub objects : AreLive r entries live
@@ -80,12 +89,14 @@ pub record IsCounted (lines : ℕ) (texts : List (List ℕ)) (t : Tally) : Type 
   pub errors : t.errors ≡ errors_in (take lines (drop 8 texts))
   pub sum : t.sum ≡ sum_in (drop (8 + lines) texts)
 
--- between two lines: those before were fed, each once nothing was under way, and counted; the others are left
+-- between two lines: those before were fed and counted, and the others are left; where each frame that was accepted had been sent, each was
+-- fed once nothing was under way
 pub record IsLoading (r : Rules) (load : Workload) (left : List (List ℕ)) (entries : List Entry) (t : Tally) : Type 0 where
   pub before : List (List ℕ)
   pub lines_are : session_lines load.start load.lines r.localities ≡ before ++ left
   pub blocks : List (List Entry)
-  pub session : IsSession r [] (marked 115 before) blocks
+  pub begin : AreFed (marked 115 before) blocks
+  pub session : IsCarried r [] entries → IsSession r [] (marked 115 before) blocks
   pub entries_are : entries ≡ entries_of blocks
   pub many : length (map concat (shown blocks)) ≡ length before
   pub counts : IsCounted load.lines (map concat (shown blocks)) t

@@ -3,7 +3,7 @@ use Rattle.std.specs.Prelude.{ℕ, Bool, true, false, List, [], ◌∷◌, ◌++
 use Rattle.std.specs.List.{concat, AllByRecursion}
 use Rattle.hpx_journal.specs.declared.entry.Entry.{Entry}
 use Rattle.hpx_journal.specs.Entries.{Rules}
-use Rattle.hpx_journal.specs.Whole.{replayed}
+use Rattle.hpx_journal.specs.Whole.{IsCarried, replayed}
 use Rattle.hpx_journal.specs.Pool.{prints_of}
 use Rattle.hpx_journal.specs.Sessions.{FeedsNothing, BeginsWith}
 use Rattle.hpx_world.specs.declared.audit.AuditLine.{AuditLine}
@@ -31,19 +31,20 @@ pub record GrowsBy (Of : List Entry → Type 0) (old new : List Entry) : Type 0 
 
 -- ---- what a line does
 
--- behind these entries nothing is under way
-abbrev pub Rests : Rules → List Entry → Type 0
-Rests r es = IsAtRest r (replayed r es)
+-- behind these entries nothing is under way, where each frame that was accepted had been sent
+pub record Rests (r : Rules) (es : List Entry) : Type 0 where
+  pub rest : IsCarried r [] es → IsAtRest r (replayed r es)
 
 -- one thing in a hold, and another outside
 abbrev pub InHold : Bool → Type 0 → Type 0 → Type 0
 InHold true within outside = within
 InHold false within outside = outside
 
--- only locality 0 went on, and no frame went or came; a line waits there only where the session is busy
+-- only locality 0 went on, and no frame went or came; where each frame that was accepted had been sent, a line waits there only where the
+-- session is busy
 pub record IsHeldBack (r : Rules) (before more : List Entry) : Type 0 where
   pub home : StaysHome more
-  pub waits : WaitsBusy (replayed r (before ++ more))
+  pub waits : IsCarried r [] (before ++ more) → WaitsBusy (replayed r (before ++ more))
 
 -- nothing was done, and outside a hold nothing is under way
 pub record IsNothing (r : Rules) (held : Bool) (before more : List Entry) : Type 0 where
@@ -75,12 +76,13 @@ Does r text held _ before more = IsNothing r held before more
 
 -- ---- what the top call itself writes
 
--- a line for each object of which credit is out; outside a hold it stands where its line says
+-- a line for each object of which credit is out, where each frame that was accepted had been sent; outside a hold it stands where its
+-- line says
 pub record IsAuditText (r : Rules) (held : Bool) (es : List Entry) (text : List ℕ) : Type 0 where
   pub lines : List AuditLine
-  pub tells : IsAudit r es lines
+  pub tells : IsCarried r [] es → IsAudit r es lines
   pub ordered : AreOrdered lines
-  pub stand : held ≡ false → StandWhereTold r es lines
+  pub stand : held ≡ false → IsCarried r [] es → StandWhereTold r es lines
   pub text_is : text ≡ audit_text lines
 
 -- what is written for a line behind these entries

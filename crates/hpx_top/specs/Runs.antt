@@ -1,17 +1,16 @@
 -- What a run leaves: its world, and what it did with its ports, by the status that it ends with.
-use Rattle.std.specs.Prelude.{ℕ, false, Option, Some, IfSome, List, [], length, ◌≡◌, ◌≢◌, ◌⊎◌, ◌++◌, ◌+◌, ◌-◌, ◌<◌, ◌≤◌}
+use Rattle.std.specs.Prelude.{ℕ, false, Option, Some, IfSome, List, [], length, slice_get, ◌≡◌, ◌≢◌, ◌⊎◌, ◌++◌, ◌+◌, ◌-◌, ◌<◌, ◌≤◌}
 use Rattle.std.specs.List.{list_any}
 use Rattle.hpx_value.specs.declared.profile.Profile.{Profile}
-use Rattle.hpx_journal.specs.Entries.{Frame}
 use Rattle.hpx_journal.specs.Pool.{prints_of}
 use Rattle.hpx_journal.specs.Weights.{HasRoom}
+use Rattle.hpx_journal.specs.Whole.{IsCarried}
 use Rattle.hpx_steps.specs.Limits.{IsWithin}
-use Rattle.hpx_steps.specs.Rest.{rules_of}
-use Rattle.hpx_ports.specs.declared.fabric.Wire.{Wire}
+use Rattle.hpx_steps.specs.Rest.{rules_of, StandsAtRest}
 use Rattle.hpx_ports.specs.Faults.{Rose}
 use Rattle.hpx_ports.specs.Told.{followed}
 use Rattle.hpx_world.specs.Audit.{audit_lines, IsAudit, StandWhereTold}
-use Rattle.hpx_world.specs.Away.{IsCarrying}
+use Rattle.hpx_tables.specs.Tables.{Tables}
 use Rattle.hpx_world.specs.Places.{Places}
 use Rattle.hpx_world.specs.Quiet.{IsQuiet}
 use Rattle.hpx_world.specs.Promises.{KeepsPromises}
@@ -89,7 +88,7 @@ pub record HasServed (console : UserConsole) (telling : Telling) (status : ℕ) 
   pub begun : IsBegun console telling input (entries_in world) x.text z.text
   pub between_lines : (status ≡ 2) ⊎ (status ≡ 9) → (b : IsBrokenOff console telling 0 input (entries_in world) x.text z.text)
       × (IsReadOn (z.taken - x.taken) (length b.handled) input z.left)
-  pub refused : (status ≡ 4) ⊎ (status ≡ 5) → IsBroken console telling input z.left (entries_in world) x.text z.text
+  pub refused : (status ≡ 4) ⊎ (status ≡ 5) ⊎ (status ≡ 7) ⊎ (status ≡ 8) → IsBroken console telling input z.left (entries_in world) x.text z.text
   pub short : status ≡ 6 → IfSome world (λ w. IsShort console telling input z.left w.journal.entries x.text z.text)
 
 -- what was written begins what one plain space at n localities says of the whole input
@@ -104,23 +103,23 @@ OwnsNone console input = list_any (λ line. is_own (how console line)) (lines_of
 
 -- What was done of a task at n localities: the console served its input, and the journal and its lengths behind each line tell what it
 -- wrote; any other application read nothing, and what was written is what the journal printed, or what the prints of the made session come
--- to. Where no ask for credit was refused, and no line is a `hold`, `turn`, `audit` or `counter`, that is what one plain space says, or
--- what was to be computed.
+-- to. Where each frame that was accepted had been sent, no ask for credit was refused, and no line is a `hold`, `turn`, `audit` or `counter`,
+-- that is what one plain space says, or what was to be computed.
 pub record HasDone (task : Task) (n : ℕ) (p : Profile) (status : ℕ) (cuts : List ℕ) (world : Option Places) (x z : Ports) : Type 0 where
   pub shown : (line : List ℕ) → task_line task ≡ Some line
       → HasComputed line (prints_of (entries_in world)) status (entries_in world) x.text z.text
-  pub computed : NoneRefused p (entries_in world) → (line : List ℕ) → task_line task ≡ Some line
+  pub computed : IsCarried (rules_of act_of n p) [] (entries_in world) → NoneRefused p (entries_in world) → (line : List ℕ) → task_line task ≡ Some line
       → HasComputed line (task_texts task) status (entries_in world) x.text z.text
   pub loaded : (load : Workload) → task ≡ Load load
       → HasLoaded (rules_of act_of n p) load (IsSummed (rules_of act_of n p) load (entries_in world)) status (entries_in world) x.text z.text
-  pub loaded_plainly : NoneRefused p (entries_in world) → (load : Workload) → task ≡ Load load
+  pub loaded_plainly : IsCarried (rules_of act_of n p) [] (entries_in world) → NoneRefused p (entries_in world) → (load : Workload) → task ≡ Load load
       → HasLoaded (rules_of act_of n p) load (IsSummedPlainly (rules_of act_of n p) load (entries_in world)) status (entries_in world) x.text z.text
   pub unread : reads_input task ≡ false → (z.left ≡ x.left) × (z.taken ≡ x.taken) × (z.read_faults ≡ x.read_faults) × (cuts ≡ [])
   pub no_read : reads_input task ≡ false → (status ≢ 2) × (status ≢ 9)
   pub reads : (input : List ℕ) → x.left ≡ Some input → IsReadFrom input z.left x.taken z.taken
   pub served : (console : UserConsole) → task ≡ Console console → (input : List ℕ) → x.left ≡ Some input
       → HasServed console (ByJournal (rules_of act_of n p) cuts) status input world x z
-  pub served_plainly : NoneRefused p (entries_in world) → (console : UserConsole) → task ≡ Console console → (input : List ℕ) → x.left ≡ Some input
+  pub served_plainly : IsCarried (rules_of act_of n p) [] (entries_in world) → NoneRefused p (entries_in world) → (console : UserConsole) → task ≡ Console console → (input : List ℕ) → x.left ≡ Some input
       → OwnsNone console input → HasServed console (ByOneSpace n) status input world x z × BeginsPlainly console n input x.text z.text
 
 -- What was done of a setup: first its task, which ended with a status, and left the ports so; then the values of the counters were
@@ -135,17 +134,18 @@ pub record HasRun (setup : Setup) (status : ℕ) (cuts : List ℕ) (world : Opti
 
 -- ---- worlds
 
--- What holds of a world wherever a run ends: where the limit of credit is high no ask was refused and no action failed, the journal
--- keeps all that is promised of it, and the fabric has carried what it says.
-pub record IsLawful (w : Places) (flight : Option (List Frame)) (trace : Option (List Wire)) : Type 0 where
-  pub granted : IsAmple w.profile → AllGranted w.journal.entries
-  pub promises : KeepsPromises (rules w) w.journal.entries
+-- What holds of a world wherever a run ends: the journal is within its limits, and each node stands for its part of it, in which
+-- nothing is idle. Where each frame that was accepted had been sent, the journal keeps all that is promised of it, an audit tells what it leads
+-- to, and where the limit of credit is high no ask was refused and no action failed.
+pub record IsLawful (w : Places) : Type 0 where
   pub within : IsWithin w.journal.entries
-  pub audit : IsAudit (rules w) w.journal.entries (audit_lines w.nodes)
-  pub stand : IsQuiet w.nodes w.hand → StandWhereTold (rules w) w.journal.entries (audit_lines w.nodes)
-  pub carrying : IsCarrying (rules w) w.hand flight trace w.journal.entries
+  pub stands : (k : ℕ) (t : Tables) → slice_get w.nodes k ≡ Some t → StandsAtRest (rules w) t w.journal.entries
+  pub granted : IsCarried (rules w) [] w.journal.entries → IsAmple w.profile → AllGranted w.journal.entries
+  pub promises : IsCarried (rules w) [] w.journal.entries → KeepsPromises (rules w) w.journal.entries
+  pub audit : IsCarried (rules w) [] w.journal.entries → IsAudit (rules w) w.journal.entries (audit_lines w.nodes)
+  pub stand : IsCarried (rules w) [] w.journal.entries → IsQuiet w.nodes w.hand → StandWhereTold (rules w) w.journal.entries (audit_lines w.nodes)
 
--- all that was begun is done, and nothing is under way
+-- nothing is to be done anywhere; and where each frame that was accepted had been sent, all that was begun is done, and nothing is under way
 pub record HasEnded (w : Places) : Type 0 where
   pub rest : IsRested w
-  pub done : AllDone w.journal.entries
+  pub done : IsCarried (rules w) [] w.journal.entries → AllDone w.journal.entries

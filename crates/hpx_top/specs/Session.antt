@@ -7,14 +7,16 @@ use Rattle.hpx_journal.specs.declared.entry.Entry.{Entry}
 use Rattle.hpx_journal.specs.declared.entry.Name.{Name}
 use Rattle.hpx_journal.specs.declared.entry.Event.{Event}
 use Rattle.hpx_journal.specs.declared.entry.Event.TheVariants.{Line}
-use Rattle.hpx_journal.specs.Entries.{Rules}
-use Rattle.hpx_journal.specs.Whole.{IsLegal, replayed}
+use Rattle.hpx_journal.specs.Entries.{Frame, Rules}
+use Rattle.hpx_journal.specs.Whole.{IsCarried, IsLegal, replayed}
 use Rattle.hpx_journal.specs.Laws.{begun, fires, dones, count_events, is_refused_count}
 use Rattle.hpx_journal.specs.Pool.{NoneFails, prints_of}
 use Rattle.hpx_journal.specs.Sessions.{IsSettled, BeginsWith}
 use Rattle.hpx_ports.specs.Told.{preceded, followed}
+use Rattle.hpx_ports.specs.declared.fabric.Wire.{Wire}
+use Rattle.hpx_world.specs.Away.{IsCarrying}
 use Rattle.hpx_world.specs.Places.{Places, rules_in}
-use Rattle.hpx_world.specs.Quiet.{IsQuiet, IsAtRest}
+use Rattle.hpx_world.specs.Quiet.{IsQuiet}
 use Rattle.app_console.specs.Console.{prompt}
 use Rattle.app_console.specs.Lines.{IsFront, is_long, is_quit, IsPiece, before_quit, opening}
 use Rattle.hpx_top.specs.Acts.{act_of}
@@ -51,10 +53,15 @@ pub record AllDone (entries : List Entry) : Type 0 where
   pub fired : (a : Name) → fires a entries ≡ begun a entries
   pub done : (a : Name) → dones a entries ≡ begun a entries
 
--- nothing is to be done anywhere, nothing is under way, and as many credits are held as objects are named
+-- nothing is to be done anywhere; and where each frame that was accepted had been sent, nothing is under way, and as many credits are held
+-- as objects are named
 pub record IsRested (w : Places) : Type 0 where
   pub quiet : IsQuiet w.nodes w.hand
-  pub rest : IsAtRest (rules w) (replayed (rules w) w.journal.entries)
+  pub rest : Rests (rules w) w.journal.entries
+
+-- a fabric that tells this has carried for the journal
+abbrev pub Carries : Places → Option (List Frame) → Option (List Wire) → Type 0
+Carries w flight trace = IsCarrying (rules w) w.hand flight trace w.journal.entries
 
 -- the entries that stand where a run ends: none without a world
 abbrev pub entries_in : Option Places → List Entry
@@ -93,13 +100,14 @@ pub record HasBegun (console : UserConsole) (line : List ℕ) (old new : List En
 abbrev pub HasFed : UserConsole → List (List ℕ) → List Entry → Type 0
 HasFed console lines entries = (lines_fed entries ≡ fed console lines) ⊎ ((lines_fed entries ≡ []) × (lines ≡ []))
 
--- the journal grew by what a text did: it was fed, and then nothing was left to do
+-- the journal grew by what a text did: it was fed; and where each frame that was accepted had been sent, the journal is legal, and then nothing
+-- was left to do
 pub record Feeds (r : Rules) (text : List ℕ) (old new : List Entry) : Type 0 where
   pub block : List Entry
   pub is : new ≡ old ++ block
   pub begins : BeginsWith text block
-  pub legal : IsLegal r new
-  pub settled : IsSettled r (replayed r new)
+  pub legal : IsCarried r [] new → IsLegal r new
+  pub settled : IsCarried r [] new → IsSettled r (replayed r new)
 
 -- ---- what goes to a sink
 

@@ -1,7 +1,8 @@
 -- What a run answers, and what it says of it.
 use Rattle.std.specs.Prelude.{ℕ, List, [], ◌==◌, ◌≢◌, ◌≤◌, codes, Result, Ok, Err, if◌then◌else◌}
 use Rattle.hpx_top.specs.declared.session.SessionFault.{SessionFault}
-use Rattle.hpx_top.specs.declared.session.SessionFault.TheVariants.{Read, Write, Fabric, JournalFull, OutOfMemory, BadFrame, Strange, InputFull}
+use Rattle.hpx_top.specs.declared.session.SessionFault.TheVariants.{Read, Write, Fabric, JournalFull, OutOfMemory, Broken, InputFull}
+use Rattle.hpx_top.specs.Breaches.{breach_status}
 
 -- the status for each cause
 abbrev pub status_of : SessionFault → ℕ
@@ -10,8 +11,7 @@ status_of Write = 3
 status_of Fabric = 4
 status_of JournalFull = 5
 status_of OutOfMemory = 6
-status_of BadFrame = 7
-status_of Strange = 8
+status_of (Broken breach) = breach_status breach
 status_of InputFull = 9
 
 -- the status of a session that ended
@@ -19,7 +19,8 @@ abbrev pub status_after : {T : Type 0} → Result T SessionFault → ℕ
 status_after (Ok x) = 0
 status_after (Err fault) = status_of fault
 
--- one of the statuses that there are on a fabric that tells: no frame without a parcel comes there, and none that breaks a rule
+-- one of the statuses that there are on a fabric that tells: no frame without a parcel comes there, none that breaks a rule, and no end is
+-- early
 pub record IsStatus (status : ℕ) : Type 0 where
   pub last : status ≤ 9
   pub no_frame : status ≢ 7

@@ -3,11 +3,11 @@ ghost use Rattle.std.specs.Prelude.{◌≡◌, ◌≢◌, ◌≤◌, [], Err, Ok
 ghost use Rattle.hpx_value.specs.Profiles.{IsValid};
 ghost use Rattle.hpx_journal.specs.Weights.{HasRoom};
 ghost use Rattle.hpx_ports.specs.Faults.{Rose};
-ghost use Rattle.hpx_world.specs.Away.{IsCarrying};
+ghost use Rattle.hpx_top.specs.Breaches.{IsShown, IsShownIn, NoBreach};
 ghost use Rattle.hpx_world.specs.Quiet.{IsQuiet};
 ghost use Rattle.hpx_top.specs.Computed.{IsAnswered, IsUnanswered, IsWorkOf};
 ghost use Rattle.hpx_top.specs.Runs.{ports_of, HasCause, HasEnded, IsLawful};
-ghost use Rattle.hpx_top.specs.Session.{rules, IsRested};
+ghost use Rattle.hpx_top.specs.Session.{rules, Carries, IsRested};
 ghost use Rattle.hpx_top.specs.Statuses.{IsStatus, status_after};
 
 use crate::acts::AllActs;
@@ -72,9 +72,8 @@ fn answer<K: Sink, F: Fabric, R: Threads + Wait + Sync, G: Gate>(
     requires short { length line ≤ 1025 }
     requires empty { world.old.journal.entries ≡ [] }
     requires quiet { IsQuiet world.old.nodes world.old.hand }
-    requires carrying { IsCarrying (rules world.old) world.old.hand (F.flight fabric.old) (F.trace fabric.old) world.old.journal.entries }
 
-    ensures carrying { IsCarrying (rules world.new) world.new.hand (F.flight fabric.new) (F.trace fabric.new) world.new.journal.entries }
+    ensures carrying { Carries world.old (F.flight fabric.old) (F.trace fabric.old) → Carries world.new (F.flight fabric.new) (F.trace fabric.new) }
     ensures count { length world.new.nodes ≡ length world.old.nodes }
     ensures profile { world.new.profile ≡ world.old.profile }
     ensures answered { OnOk result (IsAnswered (rules world.old) line world.new.journal.entries (K.held sink.old) (K.held sink.new)) }
@@ -85,8 +84,8 @@ fn answer<K: Sink, F: Fabric, R: Threads + Wait + Sync, G: Gate>(
     ensures fabric { result ≡ Err SessionFault.Fabric → Rose (F.faults fabric.old) (F.faults fabric.new) }
     ensures full { result ≡ Err SessionFault.JournalFull → HasRoom world.new.journal.entries → ⊥ }
     ensures room { result ≢ Err SessionFault.JournalFull → HasRoom world.new.journal.entries }
-    ensures no_frame { result ≢ Err SessionFault.BadFrame }
-    ensures no_parcel { result ≢ Err SessionFault.Strange }
+    ensures shown { IfErr result (λ fault. IsShown fault world.new) }
+    ensures told { Carries world.old (F.flight fabric.old) (F.trace fabric.old) → IfErr result NoBreach }
     ensures write_only { result ≢ Err SessionFault.Write → K.faults sink.new ≡ K.faults sink.old }
     ensures fabric_only { result ≢ Err SessionFault.Fabric → F.faults fabric.new ≡ F.faults fabric.old }
 {
@@ -94,9 +93,7 @@ fn answer<K: Sink, F: Fabric, R: Threads + Wait + Sync, G: Gate>(
     show(world.journal(), 0, sink)
 }
 
-/// Feeds the line to so many localities, on a fabric in which nothing is in flight yet, and writes what is printed. It has no
-/// source.
-#[tactic(auto, using(crate::proofs::Carried::carrying_start))]
+/// Feeds the line to so many localities, and writes what is printed. It has no source.
 pub(crate) fn compute_all<K: Sink, F: Fabric, R: Threads + Wait + Sync, G: Gate>(
     crew: &Crew<R, G>,
     alloc: Global,
@@ -110,8 +107,6 @@ pub(crate) fn compute_all<K: Sink, F: Fabric, R: Threads + Wait + Sync, G: Gate>
     requires few { localities ≤ 64 }
     requires profile { IsValid profile }
     requires short { length line ≤ 1025 }
-    requires flight { F.flight fabric.old ≡ Some [] }
-    requires trace { F.trace fabric.old ≡ Some [] }
 
     ensures answered { IfSome result.0 (λ w. OnOk result.1 (IsAnswered (rules w) line w.journal.entries (K.held sink.old) (K.held sink.new))) }
     ensures unanswered { IfSome result.0 (λ w.
@@ -119,10 +114,12 @@ pub(crate) fn compute_all<K: Sink, F: Fabric, R: Threads + Wait + Sync, G: Gate>
     ensures cause { let x = ports_of None 0 (K.held sink.old) 0 (K.faults sink.old) (F.faults fabric.old) in
         let z = ports_of None 0 (K.held sink.new) 0 (K.faults sink.new) (F.faults fabric.new) in
         HasCause (status_after result.1) result.0 x z }
-    ensures status { IsStatus (status_after result.1) }
+    ensures status { F.flight fabric.old ≡ Some [] → F.trace fabric.old ≡ Some [] → IsStatus (status_after result.1) }
+    ensures shown { IfErr result.1 (λ fault. IsShownIn fault result.0) }
     ensures no_read { (result.1 ≢ Err SessionFault.Read) × (result.1 ≢ Err SessionFault.InputFull) }
     ensures places { IfSome result.0 (λ w. (length w.nodes ≡ localities) × (w.profile ≡ profile)) }
-    ensures lawful { IfSome result.0 (λ w. IsLawful w (F.flight fabric.new) (F.trace fabric.new)) }
+    ensures lawful { IfSome result.0 IsLawful }
+    ensures carrying { F.flight fabric.old ≡ Some [] → F.trace fabric.old ≡ Some [] → IfSome result.0 (λ w. Carries w (F.flight fabric.new) (F.trace fabric.new)) }
     ensures ended { OnOk result.1 (IfSome result.0 HasEnded) }
     ensures none { result.0 ≡ None → result.1 ≡ Err SessionFault.OutOfMemory }
     ensures untouched { result.0 ≡ None → (sink.new ≡ sink.old) × (fabric.new ≡ fabric.old) }

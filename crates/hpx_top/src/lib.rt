@@ -2,6 +2,7 @@
 #![tactic(auto)]
 
 pub mod acts;
+pub mod breach;
 mod compute;
 pub mod consoles;
 pub mod crew;

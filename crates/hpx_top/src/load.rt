@@ -3,16 +3,15 @@ ghost use Rattle.std.specs.Prelude.{◌∷◌, ◌++◌, ◌≡◌, ◌≢◌, �
 ghost use Rattle.std.specs.List.{concat, slice_get};
 ghost use Rattle.hpx_value.specs.Profiles.{IsValid};
 ghost use Rattle.hpx_journal.specs.Pool.{prints_by, prints_of};
-ghost use Rattle.hpx_journal.specs.Whole.{IsCarried};
 ghost use Rattle.hpx_journal.specs.Weights.{HasRoom};
 ghost use Rattle.hpx_ports.specs.Faults.{Rose};
-ghost use Rattle.hpx_world.specs.Away.{IsCarrying};
+ghost use Rattle.hpx_top.specs.Breaches.{IsShown, IsShownIn, NoBreach};
 ghost use Rattle.hpx_world.specs.Quiet.{IsQuiet};
 ghost use Rattle.app_console.specs.Lines.{is_long};
 ghost use Rattle.hpx_top.specs.Loaded.{counted, number_told, FeedsFirst, IsBounded, IsLoading, IsSummed, IsUnloaded, WritesSo};
 ghost use Rattle.app_load.specs.Session.{IsNext};
 ghost use Rattle.hpx_top.specs.Runs.{ports_of, HasCause, HasEnded, IsLawful};
-ghost use Rattle.hpx_top.specs.Session.{rules, Feeds, FeedsAtMost, IsRested};
+ghost use Rattle.hpx_top.specs.Session.{rules, Carries, Feeds, FeedsAtMost, IsRested};
 ghost use Rattle.hpx_top.specs.Statuses.{IsStatus, status_after};
 
 use crate::acts::AllActs;
@@ -122,9 +121,8 @@ fn load_line<F: Fabric, R: Threads + Wait + Sync, G: Gate>(
     requires bounded { IsBounded tally.old }
     requires room { HasRoom world.old.journal.entries }
     requires quiet { IsQuiet world.old.nodes world.old.hand }
-    requires carrying { IsCarrying (rules world.old) world.old.hand (F.flight fabric.old) (F.trace fabric.old) world.old.journal.entries }
 
-    ensures carrying { IsCarrying (rules world.new) world.new.hand (F.flight fabric.new) (F.trace fabric.new) world.new.journal.entries }
+    ensures carrying { Carries world.old (F.flight fabric.old) (F.trace fabric.old) → Carries world.new (F.flight fabric.new) (F.trace fabric.new) }
     ensures count { length world.new.nodes ≡ length world.old.nodes }
     ensures profile { world.new.profile ≡ world.old.profile }
     ensures fed { OnOk result (Feeds (rules world.old) (115 ∷ line.now) world.old.journal.entries world.new.journal.entries) }
@@ -137,8 +135,8 @@ fn load_line<F: Fabric, R: Threads + Wait + Sync, G: Gate>(
     ensures full { result ≡ Err SessionFault.JournalFull → HasRoom world.new.journal.entries → ⊥ }
     ensures room { result ≢ Err SessionFault.JournalFull → HasRoom world.new.journal.entries }
     ensures other { (result ≢ Err SessionFault.Read) × (result ≢ Err SessionFault.Write) × (result ≢ Err SessionFault.InputFull) }
-    ensures no_frame { result ≢ Err SessionFault.BadFrame }
-    ensures no_parcel { result ≢ Err SessionFault.Strange }
+    ensures shown { IfErr result (λ fault. IsShown fault world.new) }
+    ensures told { Carries world.old (F.flight fabric.old) (F.trace fabric.old) → IfErr result NoBreach }
     ensures stands { result ≢ Err SessionFault.Fabric → F.faults fabric.new ≡ F.faults fabric.old }
 {
     let Ok(text) = marked(alloc, SPACE, line.as_slice()) else {
@@ -181,9 +179,8 @@ fn load_lines<F: Fabric, R: Threads + Wait + Sync, G: Gate>(
     requires places { length world.old.nodes ≡ localities }
     requires empty { world.old.journal.entries ≡ [] }
     requires quiet { IsQuiet world.old.nodes world.old.hand }
-    requires carrying { IsCarrying (rules world.old) world.old.hand (F.flight fabric.old) (F.trace fabric.old) world.old.journal.entries }
 
-    ensures carrying { IsCarrying (rules world.new) world.new.hand (F.flight fabric.new) (F.trace fabric.new) world.new.journal.entries }
+    ensures carrying { Carries world.old (F.flight fabric.old) (F.trace fabric.old) → Carries world.new (F.flight fabric.new) (F.trace fabric.new) }
     ensures count { length world.new.nodes ≡ length world.old.nodes }
     ensures profile { world.new.profile ≡ world.old.profile }
     ensures loaded { IfOk result (λ tally. IsLoading (rules world.old) load [] world.new.journal.entries tally) }
@@ -194,8 +191,8 @@ fn load_lines<F: Fabric, R: Threads + Wait + Sync, G: Gate>(
     ensures full { result ≡ Err SessionFault.JournalFull → HasRoom world.new.journal.entries → ⊥ }
     ensures room { result ≢ Err SessionFault.JournalFull → HasRoom world.new.journal.entries }
     ensures other { (result ≢ Err SessionFault.Read) × (result ≢ Err SessionFault.Write) × (result ≢ Err SessionFault.InputFull) }
-    ensures no_frame { result ≢ Err SessionFault.BadFrame }
-    ensures no_parcel { result ≢ Err SessionFault.Strange }
+    ensures shown { IfErr result (λ fault. IsShown fault world.new) }
+    ensures told { Carries world.old (F.flight fabric.old) (F.trace fabric.old) → IfErr result NoBreach }
     ensures stands { result ≢ Err SessionFault.Fabric → F.faults fabric.new ≡ F.faults fabric.old }
 {
     world.law();
@@ -218,7 +215,6 @@ fn summed(
     world: &World<AllActs>,
     tally: Tally,
 ) -> Result<Vec<u8>, OutOfMemory>
-    requires carried { IsCarried (rules world.now) [] world.now.journal.entries }
     requires loaded { IsLoading (rules world.now) load [] world.now.journal.entries tally }
     ensures { IfOk result (λ text. IsSummed (rules world.now) load world.now.journal.entries text.items) }
 {
@@ -235,7 +231,6 @@ fn write_sum<K: Sink>(
     tally: Tally,
     sink: &mut K,
 ) -> Result<(), SessionFault>
-    requires carried { IsCarried (rules world.now) [] world.now.journal.entries }
     requires loaded { IsLoading (rules world.now) load [] world.now.journal.entries tally }
     ensures loaded { OnOk result (WritesSo (IsSummed (rules world.now) load world.now.journal.entries) (K.held sink.old) (K.held sink.new)) }
     ensures unloaded { IfErr result (λ fault. IsUnloaded fault (rules world.now) load world.now.journal.entries (K.held sink.old) (K.held sink.new)) }
@@ -265,9 +260,8 @@ fn load_made<K: Sink, F: Fabric, R: Threads + Wait + Sync, G: Gate>(
     requires places { length world.old.nodes ≡ localities }
     requires empty { world.old.journal.entries ≡ [] }
     requires quiet { IsQuiet world.old.nodes world.old.hand }
-    requires carrying { IsCarrying (rules world.old) world.old.hand (F.flight fabric.old) (F.trace fabric.old) world.old.journal.entries }
 
-    ensures carrying { IsCarrying (rules world.new) world.new.hand (F.flight fabric.new) (F.trace fabric.new) world.new.journal.entries }
+    ensures carrying { Carries world.old (F.flight fabric.old) (F.trace fabric.old) → Carries world.new (F.flight fabric.new) (F.trace fabric.new) }
     ensures count { length world.new.nodes ≡ length world.old.nodes }
     ensures profile { world.new.profile ≡ world.old.profile }
     ensures loaded { OnOk result (WritesSo (IsSummed (rules world.old) load world.new.journal.entries) (K.held sink.old) (K.held sink.new)) }
@@ -280,8 +274,8 @@ fn load_made<K: Sink, F: Fabric, R: Threads + Wait + Sync, G: Gate>(
     ensures full { result ≡ Err SessionFault.JournalFull → HasRoom world.new.journal.entries → ⊥ }
     ensures room { result ≢ Err SessionFault.JournalFull → HasRoom world.new.journal.entries }
     ensures no_read { (result ≢ Err SessionFault.Read) × (result ≢ Err SessionFault.InputFull) }
-    ensures no_frame { result ≢ Err SessionFault.BadFrame }
-    ensures no_parcel { result ≢ Err SessionFault.Strange }
+    ensures shown { IfErr result (λ fault. IsShown fault world.new) }
+    ensures told { Carries world.old (F.flight fabric.old) (F.trace fabric.old) → IfErr result NoBreach }
     ensures write_only { result ≢ Err SessionFault.Write → K.faults sink.new ≡ K.faults sink.old }
     ensures fabric_only { result ≢ Err SessionFault.Fabric → F.faults fabric.new ≡ F.faults fabric.old }
 {
@@ -289,8 +283,7 @@ fn load_made<K: Sink, F: Fabric, R: Threads + Wait + Sync, G: Gate>(
     write_sum(alloc, load, world, tally, sink)
 }
 
-/// Feeds the lines of a session to so many localities, on a fabric in which nothing is in flight yet, and writes what they come to.
-#[tactic(auto, using(crate::proofs::Carried::carrying_start))]
+/// Feeds the lines of a session to so many localities, and writes what they come to.
 pub(crate) fn load_all<K: Sink, F: Fabric, R: Threads + Wait + Sync, G: Gate>(
     crew: &Crew<R, G>,
     alloc: Global,
@@ -304,8 +297,6 @@ pub(crate) fn load_all<K: Sink, F: Fabric, R: Threads + Wait + Sync, G: Gate>(
     requires few { localities ≤ 64 }
     requires profile { IsValid profile }
     requires lines { load.lines ≤ 20000 }
-    requires flight { F.flight fabric.old ≡ Some [] }
-    requires trace { F.trace fabric.old ≡ Some [] }
 
     ensures loaded { IfSome result.0 (λ w. OnOk result.1 (WritesSo (IsSummed (rules w) load w.journal.entries) (K.held sink.old) (K.held sink.new))) }
     ensures unloaded { IfSome result.0 (λ w.
@@ -314,10 +305,12 @@ pub(crate) fn load_all<K: Sink, F: Fabric, R: Threads + Wait + Sync, G: Gate>(
     ensures cause { let x = ports_of None 0 (K.held sink.old) 0 (K.faults sink.old) (F.faults fabric.old) in
         let z = ports_of None 0 (K.held sink.new) 0 (K.faults sink.new) (F.faults fabric.new) in
         HasCause (status_after result.1) result.0 x z }
-    ensures status { IsStatus (status_after result.1) }
+    ensures status { F.flight fabric.old ≡ Some [] → F.trace fabric.old ≡ Some [] → IsStatus (status_after result.1) }
+    ensures shown { IfErr result.1 (λ fault. IsShownIn fault result.0) }
     ensures no_read { (result.1 ≢ Err SessionFault.Read) × (result.1 ≢ Err SessionFault.InputFull) }
     ensures places { IfSome result.0 (λ w. (length w.nodes ≡ localities) × (w.profile ≡ profile)) }
-    ensures lawful { IfSome result.0 (λ w. IsLawful w (F.flight fabric.new) (F.trace fabric.new)) }
+    ensures lawful { IfSome result.0 IsLawful }
+    ensures carrying { F.flight fabric.old ≡ Some [] → F.trace fabric.old ≡ Some [] → IfSome result.0 (λ w. Carries w (F.flight fabric.new) (F.trace fabric.new)) }
     ensures ended { OnOk result.1 (IfSome result.0 HasEnded) }
     ensures none { result.0 ≡ None → result.1 ≡ Err SessionFault.OutOfMemory }
     ensures untouched { result.0 ≡ None → (sink.new ≡ sink.old) × (fabric.new ≡ fabric.old) }

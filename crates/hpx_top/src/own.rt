@@ -1,6 +1,5 @@
 //! What the top call itself writes for a line.
 ghost use Rattle.std.specs.Prelude.{◌≡◌, ◌≢◌, [], IfOk, OnOk, OnErr, IfErr, false};
-ghost use Rattle.hpx_journal.specs.Whole.{IsCarried};
 ghost use Rattle.hpx_own.specs.Texts.{audit_text, counted_text, line_text};
 ghost use Rattle.hpx_ports.specs.Faults.{Rose};
 ghost use Rattle.hpx_ports.specs.Told.{followed};
@@ -39,7 +38,6 @@ pub(crate) fn own_of(
     world: &World<AllActs>,
     handled: Handled,
 ) -> Result<Own, SessionFault>
-    requires carried { IsCarried (rules world.now) [] world.now.journal.entries }
     ensures own { IfOk result (λ own. (held : _) → (held ≡ false → handled ≡ Handled.Audit → IsQuiet world.now.nodes world.now.hand)
         → IsOwn (rules world.now) held (Typed handled) world.now.journal.entries (own_text own world.now.journal.entries)) }
     ensures cause { IfErr result (λ fault. fault ≡ SessionFault.OutOfMemory) }

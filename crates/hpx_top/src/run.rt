@@ -9,11 +9,13 @@ ghost use Rattle.hpx_top.specs.Printed.{HasTold, counters_text};
 ghost use Rattle.hpx_top.specs.Runs.{ports_of, HasCause, HasDone, HasEnded, HasRun, HasServed, IsLawful, NothingFailed, Says};
 ghost use Rattle.hpx_steps.specs.Rest.{rules_of};
 ghost use Rattle.hpx_top.specs.Acts.{act_of};
-ghost use Rattle.hpx_top.specs.Session.{entries_in, ByJournal, WritesFront};
+ghost use Rattle.hpx_top.specs.Breaches.{breach_after, breach_status, IsShownIn, TellsBreach};
+ghost use Rattle.hpx_top.specs.Session.{entries_in, ByJournal, Carries, WritesFront};
 ghost use Rattle.hpx_top.specs.Statuses.{IsStatus, status_after, status_of, status_line};
 ghost use Rattle.hpx_top.specs.Usage.{IsRequest, IsSetup, bad_word, notice_in, request_in};
 
 use crate::acts::AllActs;
+use crate::breach::Breach;
 use crate::compute::{Work, compute_all, work_of};
 use crate::consoles::UserConsole;
 use crate::crew::Crew;
@@ -36,14 +38,36 @@ use std::alloc::Global;
 use std::sync::Wait;
 use std::thread::Threads;
 
-/// How a run ended: its status, the world where one was booted, and the fabric.
+/// How a run ended: its status, the world where one was booted, and the fabric. There is a fault exactly at status 7 and 8.
 #[derive(Drop)]
 pub struct End<F: Fabric> {
     pub status: u8,
     pub world: Option<World<AllActs>>,
+    pub fault: Option<Breach>,
     pub fabric: F,
     /// How long the journal was behind each line of the console that was handled; empty without a world.
     pub cuts: Vec<u64>,
+}
+
+/// The line and the status where a fabric did not carry what was sent.
+fn line_of_breach(breach: Breach) -> (&'static [u8], u8)
+    ensures status { result.1 ≡ breach_status breach }
+    ensures line { result.0.now ≡ status_line (breach_status breach) }
+{
+    match breach {
+        Breach::BadFrame {
+            to: _,
+            at: _,
+            why: _,
+        } => (b"hpx: bad frame\n", 7),
+        Breach::Strange {
+            to: _,
+            rule: _,
+            object: _,
+            kept: _,
+        } => (b"hpx: strange parcel\n", 8),
+        Breach::EarlyEnd { sent: _, taken: _ } => (b"hpx: strange parcel\n", 8),
+    }
 }
 
 /// The line and the status of a session that ended early.
@@ -57,9 +81,18 @@ fn line_of(fault: SessionFault) -> (&'static [u8], u8)
         SessionFault::Fabric => (b"hpx: fabric failed\n", 4),
         SessionFault::JournalFull => (b"hpx: journal full\n", 5),
         SessionFault::OutOfMemory => (b"hpx: out of memory\n", 6),
-        SessionFault::BadFrame => (b"hpx: bad frame\n", 7),
-        SessionFault::Strange => (b"hpx: strange parcel\n", 8),
+        SessionFault::Broken(breach) => line_of_breach(breach),
         SessionFault::InputFull => (b"hpx: input full\n", 9),
+    }
+}
+
+/// The breach that a session ended with, if it did.
+fn breach_after(ended: &Result<(), SessionFault>) -> Option<Breach>
+    ensures { result ≡ breach_after ended.now }
+{
+    match ended {
+        Ok(()) => None,
+        Err(fault) => fault.breach(),
     }
 }
 
@@ -73,8 +106,7 @@ fn say<E: Sink>(err: &mut E, line: &[u8])
     }
 }
 
-/// A session of a console over so many localities, on a fabric in which nothing is in flight yet.
-#[tactic(auto, using(crate::proofs::Carried::carrying_start))]
+/// A session of a console over so many localities.
 fn serve_all<S: Source, K: Sink, F: Fabric, R: Threads + Wait + Sync, G: Gate>(
     crew: &Crew<R, G>,
     alloc: Global,
@@ -88,8 +120,6 @@ fn serve_all<S: Source, K: Sink, F: Fabric, R: Threads + Wait + Sync, G: Gate>(
     requires some { 1 ≤ localities }
     requires few { localities ≤ 64 }
     requires profile { IsValid profile }
-    requires flight { F.flight fabric.old ≡ Some [] }
-    requires trace { F.trace fabric.old ≡ Some [] }
 
     ensures served { let x = ports_of (S.left source.old) (S.taken source.old) (K.held sink.old) (S.faults source.old) (K.faults sink.old) (F.faults fabric.old) in
         let z = ports_of (S.left source.new) (S.taken source.new) (K.held sink.new) (S.faults source.new) (K.faults sink.new) (F.faults fabric.new) in
@@ -98,10 +128,12 @@ fn serve_all<S: Source, K: Sink, F: Fabric, R: Threads + Wait + Sync, G: Gate>(
     ensures cause { let x = ports_of (S.left source.old) (S.taken source.old) (K.held sink.old) (S.faults source.old) (K.faults sink.old) (F.faults fabric.old) in
         let z = ports_of (S.left source.new) (S.taken source.new) (K.held sink.new) (S.faults source.new) (K.faults sink.new) (F.faults fabric.new) in
         HasCause (status_after result.1) result.0 x z }
-    ensures status { IsStatus (status_after result.1) }
+    ensures status { F.flight fabric.old ≡ Some [] → F.trace fabric.old ≡ Some [] → IsStatus (status_after result.1) }
+    ensures shown { IfErr result.1 (λ fault. IsShownIn fault result.0) }
     ensures places { IfSome result.0 (λ w. (length w.nodes ≡ localities) × (w.profile ≡ profile)) }
     ensures few { length result.2.items ≤ 67108865 }
-    ensures lawful { IfSome result.0 (λ w. IsLawful w (F.flight fabric.new) (F.trace fabric.new)) }
+    ensures lawful { IfSome result.0 IsLawful }
+    ensures carrying { F.flight fabric.old ≡ Some [] → F.trace fabric.old ≡ Some [] → IfSome result.0 (λ w. Carries w (F.flight fabric.new) (F.trace fabric.new)) }
     ensures ended { OnOk result.1 (IfSome result.0 HasEnded) }
     ensures none { result.0 ≡ None → result.1 ≡ Err SessionFault.OutOfMemory }
     ensures untouched { result.0 ≡ None → (source.new ≡ source.old) × (sink.new ≡ sink.old) × (fabric.new ≡ fabric.old) }
@@ -116,7 +148,7 @@ fn serve_all<S: Source, K: Sink, F: Fabric, R: Threads + Wait + Sync, G: Gate>(
     (Some(world), served, cuts)
 }
 
-/// The task of a setup, on a fabric in which nothing is in flight yet.
+/// The task of a setup.
 fn run_task<S: Source, K: Sink, F: Fabric, R: Threads + Wait + Sync, G: Gate>(
     crew: &Crew<R, G>,
     alloc: Global,
@@ -126,8 +158,6 @@ fn run_task<S: Source, K: Sink, F: Fabric, R: Threads + Wait + Sync, G: Gate>(
     fabric: &mut F,
 ) -> (Option<World<AllActs>>, Result<(), SessionFault>, Vec<u64>)
     requires setup { IsSetup setup.now }
-    requires flight { F.flight fabric.old ≡ Some [] }
-    requires trace { F.trace fabric.old ≡ Some [] }
 
     ensures did { let x = ports_of (S.left source.old) (S.taken source.old) (K.held sink.old) (S.faults source.old) (K.faults sink.old) (F.faults fabric.old) in
         let z = ports_of (S.left source.new) (S.taken source.new) (K.held sink.new) (S.faults source.new) (K.faults sink.new) (F.faults fabric.new) in
@@ -136,9 +166,11 @@ fn run_task<S: Source, K: Sink, F: Fabric, R: Threads + Wait + Sync, G: Gate>(
     ensures cause { let x = ports_of (S.left source.old) (S.taken source.old) (K.held sink.old) (S.faults source.old) (K.faults sink.old) (F.faults fabric.old) in
         let z = ports_of (S.left source.new) (S.taken source.new) (K.held sink.new) (S.faults source.new) (K.faults sink.new) (F.faults fabric.new) in
         HasCause (status_after result.1) result.0 x z }
-    ensures status { IsStatus (status_after result.1) }
+    ensures status { F.flight fabric.old ≡ Some [] → F.trace fabric.old ≡ Some [] → IsStatus (status_after result.1) }
+    ensures shown { IfErr result.1 (λ fault. IsShownIn fault result.0) }
     ensures places { IfSome result.0 (λ w. (length w.nodes ≡ setup.now.localities) × (w.profile ≡ setup.now.profile)) }
-    ensures lawful { IfSome result.0 (λ w. IsLawful w (F.flight fabric.new) (F.trace fabric.new)) }
+    ensures lawful { IfSome result.0 IsLawful }
+    ensures carrying { F.flight fabric.old ≡ Some [] → F.trace fabric.old ≡ Some [] → IfSome result.0 (λ w. Carries w (F.flight fabric.new) (F.trace fabric.new)) }
     ensures ended { OnOk result.1 (IfSome result.0 HasEnded) }
     ensures none { result.0 ≡ None → result.1 ≡ Err SessionFault.OutOfMemory }
     ensures untouched { result.0 ≡ None → (source.new ≡ source.old) × (sink.new ≡ sink.old) × (fabric.new ≡ fabric.old) }
@@ -193,8 +225,6 @@ fn run_setup<S: Source, K: Sink, F: Fabric, R: Threads + Wait + Sync, G: Gate>(
     fabric: &mut F,
 ) -> (Option<World<AllActs>>, Result<(), SessionFault>, Vec<u64>)
     requires setup { IsSetup setup.now }
-    requires flight { F.flight fabric.old ≡ Some [] }
-    requires trace { F.trace fabric.old ≡ Some [] }
 
     ensures did { let x = ports_of (S.left source.old) (S.taken source.old) (K.held sink.old) (S.faults source.old) (K.faults sink.old) (F.faults fabric.old) in
         let z = ports_of (S.left source.new) (S.taken source.new) (K.held sink.new) (S.faults source.new) (K.faults sink.new) (F.faults fabric.new) in
@@ -203,8 +233,10 @@ fn run_setup<S: Source, K: Sink, F: Fabric, R: Threads + Wait + Sync, G: Gate>(
     ensures cause { let x = ports_of (S.left source.old) (S.taken source.old) (K.held sink.old) (S.faults source.old) (K.faults sink.old) (F.faults fabric.old) in
         let z = ports_of (S.left source.new) (S.taken source.new) (K.held sink.new) (S.faults source.new) (K.faults sink.new) (F.faults fabric.new) in
         HasCause (status_after result.1) result.0 x z }
-    ensures status { IsStatus (status_after result.1) }
-    ensures lawful { IfSome result.0 (λ w. IsLawful w (F.flight fabric.new) (F.trace fabric.new)) }
+    ensures status { F.flight fabric.old ≡ Some [] → F.trace fabric.old ≡ Some [] → IsStatus (status_after result.1) }
+    ensures shown { IfErr result.1 (λ fault. IsShownIn fault result.0) }
+    ensures lawful { IfSome result.0 IsLawful }
+    ensures carrying { F.flight fabric.old ≡ Some [] → F.trace fabric.old ≡ Some [] → IfSome result.0 (λ w. Carries w (F.flight fabric.new) (F.trace fabric.new)) }
     ensures ended { OnOk result.1 (IfSome result.0 HasEnded) }
     ensures none { result.0 ≡ None → result.1 ≡ Err SessionFault.OutOfMemory }
     ensures untouched { result.0 ≡ None → (source.new ≡ source.old) × (sink.new ≡ sink.old) × (fabric.new ≡ fabric.old) }
@@ -223,7 +255,7 @@ fn run_setup<S: Source, K: Sink, F: Fabric, R: Threads + Wait + Sync, G: Gate>(
     (world, counted, cuts)
 }
 
-/// What the words ask for, on a fabric in which nothing is in flight yet.
+/// What the words ask for.
 fn fulfil<S: Source, K: Sink, F: Fabric, R: Threads + Wait + Sync, G: Gate>(
     rt: &R,
     gate: &G,
@@ -234,8 +266,6 @@ fn fulfil<S: Source, K: Sink, F: Fabric, R: Threads + Wait + Sync, G: Gate>(
     fabric: &mut F,
 ) -> (Option<World<AllActs>>, Result<(), SessionFault>, Vec<u64>)
     requires request { IsRequest request.now }
-    requires flight { F.flight fabric.old ≡ Some [] }
-    requires trace { F.trace fabric.old ≡ Some [] }
 
     ensures told { (notice : Notice) → request.now ≡ Request.Print notice →
         (result.0 ≡ None) × HasTold notice (status_after result.1) (K.held sink.old) (K.held sink.new) }
@@ -246,8 +276,10 @@ fn fulfil<S: Source, K: Sink, F: Fabric, R: Threads + Wait + Sync, G: Gate>(
     ensures cause { let x = ports_of (S.left source.old) (S.taken source.old) (K.held sink.old) (S.faults source.old) (K.faults sink.old) (F.faults fabric.old) in
         let z = ports_of (S.left source.new) (S.taken source.new) (K.held sink.new) (S.faults source.new) (K.faults sink.new) (F.faults fabric.new) in
         HasCause (status_after result.1) result.0 x z }
-    ensures status { IsStatus (status_after result.1) }
-    ensures lawful { IfSome result.0 (λ w. IsLawful w (F.flight fabric.new) (F.trace fabric.new)) }
+    ensures status { F.flight fabric.old ≡ Some [] → F.trace fabric.old ≡ Some [] → IsStatus (status_after result.1) }
+    ensures shown { IfErr result.1 (λ fault. IsShownIn fault result.0) }
+    ensures lawful { IfSome result.0 IsLawful }
+    ensures carrying { F.flight fabric.old ≡ Some [] → F.trace fabric.old ≡ Some [] → IfSome result.0 (λ w. Carries w (F.flight fabric.new) (F.trace fabric.new)) }
     ensures ended { OnOk result.1 (IfSome result.0 HasEnded) }
     ensures there { result.1 ≡ Err SessionFault.JournalFull → result.0 ≢ None }
     ensures none { result.0 ≡ None → (source.new ≡ source.old) × (fabric.new ≡ fabric.old)
@@ -261,7 +293,8 @@ fn fulfil<S: Source, K: Sink, F: Fabric, R: Threads + Wait + Sync, G: Gate>(
 }
 
 /// Runs the program on its words, by as many threads as they ask for, each of which passes the gate before a body. A status other than
-/// 0 writes one line on `err`; where that fails, the status stays.
+/// 0 writes one line on `err`; where that fails, the status stays. Any fabric will do: on one that tells, and in which nothing is in flight,
+/// each frame that is accepted had been sent; on any other that shows in the journal.
 pub fn run<S: Source, K: Sink, E: Sink, F: Fabric, R: Threads + Wait + Sync, G: Gate>(
     rt: &R,
     alloc: Global,
@@ -272,15 +305,13 @@ pub fn run<S: Source, K: Sink, E: Sink, F: Fabric, R: Threads + Wait + Sync, G: 
     mut fabric: F,
     gate: &G,
 ) -> End<F>
-    requires flight { F.flight fabric ≡ Some [] }
-    requires trace { F.trace fabric ≡ Some [] }
-
     ensures refused { (place : ℕ) → bad_word words.now ≡ Some place → (result.status ≡ 1) × (result.world ≡ None)
         × Says (bad_word_text place) (record { text = E.held err.old; faults = E.faults err.old }) (record { text = E.held err.new; faults = E.faults err.new }) }
     ensures taken { bad_word words.now ≡ None → (result.status ≢ 1)
         × Says (status_line result.status) (record { text = E.held err.old; faults = E.faults err.old }) (record { text = E.held err.new; faults = E.faults err.new }) }
     ensures silent { result.status ≡ 0 → err.new ≡ err.old }
-    ensures no_other { IsStatus result.status }
+    ensures no_other { F.flight fabric ≡ Some [] → F.trace fabric ≡ Some [] → IsStatus result.status }
+    ensures fault { TellsBreach result.status result.fault result.world }
     ensures none { result.world ≡ None → (source.new ≡ source.old) × (result.fabric ≡ fabric)
         × (notice_in words.now ≡ None → (sink.new ≡ sink.old) × ((result.status ≡ 1) ⊎ (result.status ≡ 6))) }
     ensures uncut { result.world ≡ None → result.cuts.items ≡ [] }
@@ -294,8 +325,9 @@ pub fn run<S: Source, K: Sink, E: Sink, F: Fabric, R: Threads + Wait + Sync, G: 
         HasCause result.status result.world x z }
     ensures ends_well { let x = ports_of (S.left source.old) (S.taken source.old) (K.held sink.old) (S.faults source.old) (K.faults sink.old) (F.faults fabric) in
         let z = ports_of (S.left source.new) (S.taken source.new) (K.held sink.new) (S.faults source.new) (K.faults sink.new) (F.faults result.fabric) in
-        bad_word words.now ≡ None → NothingFailed result.world x z → (result.status ≡ 0) ⊎ (result.status ≡ 6) }
-    ensures lawful { IfSome result.world (λ w. IsLawful w (F.flight result.fabric) (F.trace result.fabric)) }
+        F.flight fabric ≡ Some [] → F.trace fabric ≡ Some [] → bad_word words.now ≡ None → NothingFailed result.world x z → (result.status ≡ 0) ⊎ (result.status ≡ 6) }
+    ensures lawful { IfSome result.world IsLawful }
+    ensures carrying { F.flight fabric ≡ Some [] → F.trace fabric ≡ Some [] → IfSome result.world (λ w. Carries w (F.flight result.fabric) (F.trace result.fabric)) }
     ensures ended { result.status ≡ 0 → IfSome result.world HasEnded }
 {
     let request = match request_in(words) {
@@ -305,12 +337,14 @@ pub fn run<S: Source, K: Sink, E: Sink, F: Fabric, R: Threads + Wait + Sync, G: 
             return End {
                 status: 1,
                 world: None,
+                fault: None,
                 fabric,
                 cuts: Vec::new(alloc),
             };
         }
     };
     let (world, ended, cuts) = fulfil(rt, gate, alloc, &request, source, sink, &mut fabric);
+    let fault = breach_after(&ended);
     let status = match ended {
         Ok(()) => 0,
         Err(fault) => {
@@ -322,6 +356,7 @@ pub fn run<S: Source, K: Sink, E: Sink, F: Fabric, R: Threads + Wait + Sync, G: 
     End {
         status,
         world,
+        fault,
         fabric,
         cuts,
     }

@@ -6,12 +6,12 @@ ghost use Rattle.hpx_journal.specs.Pool.{prints_of};
 ghost use Rattle.hpx_journal.specs.Weights.{HasRoom};
 ghost use Rattle.hpx_ports.specs.Faults.{Rose};
 ghost use Rattle.hpx_ports.specs.Told.{followed};
-ghost use Rattle.hpx_world.specs.Away.{IsCarrying};
+ghost use Rattle.hpx_top.specs.Breaches.{IsShown, NoBreach};
 ghost use Rattle.hpx_world.specs.Quiet.{IsQuiet, NoneRuns};
 ghost use Rattle.hpx_world.specs.Steps.{IsUnfed};
 ghost use Rattle.app_console.specs.Lines.{is_long};
 ghost use Rattle.hpx_top.specs.Reader.{HasRead, IsOut, input_left, bytes_left, behind_line};
-ghost use Rattle.hpx_top.specs.Session.{rules, ByJournal, IsRested, IsLineEndedBy, IsServed, IsServing, IsCutAt, IsCutBy, IsEndCutBy, IsOver, IsStopped};
+ghost use Rattle.hpx_top.specs.Session.{rules, ByJournal, Carries, IsRested, IsLineEndedBy, IsServed, IsServing, IsCutAt, IsCutBy, IsEndCutBy, IsOver, IsStopped};
 ghost use Rattle.hpx_top.specs.Ends.{IsWhole, IsEndedBy, IsBegun, IsShort, IsReadFrom, IsReadUp, IsReadOn};
 ghost use Rattle.hpx_top.specs.Runs.{ports_of, HasCause, HasServed};
 ghost use Rattle.hpx_top.specs.Statuses.{IsStatus, status_after};
@@ -50,9 +50,8 @@ fn serve_text<K: Sink, F: Fabric, R: Threads + Wait + Sync, G: Gate>(
     requires short { is_long line.now ≡ false }
     requires rest { progress.old.held ≡ false → IsRested world.old }
     requires jobs { NoneRuns world.old.nodes }
-    requires carrying { IsCarrying (rules world.old) world.old.hand (F.flight fabric.old) (F.trace fabric.old) world.old.journal.entries }
 
-    ensures carrying { IsCarrying (rules world.new) world.new.hand (F.flight fabric.new) (F.trace fabric.new) world.new.journal.entries }
+    ensures carrying { Carries world.old (F.flight fabric.old) (F.trace fabric.old) → Carries world.new (F.flight fabric.new) (F.trace fabric.new) }
     ensures count { length world.new.nodes ≡ length world.old.nodes }
     ensures profile { world.new.profile ≡ world.old.profile }
     ensures served { OnOk result (IsServed console (rules world.old) line.now progress.old.held progress.new.held progress.old.cuts.items progress.new.cuts.items
@@ -67,8 +66,8 @@ fn serve_text<K: Sink, F: Fabric, R: Threads + Wait + Sync, G: Gate>(
     ensures fabric { result ≡ Err SessionFault.Fabric → Rose (F.faults fabric.old) (F.faults fabric.new) }
     ensures full { result ≡ Err SessionFault.JournalFull → HasRoom world.new.journal.entries → ⊥ }
     ensures room { HasRoom world.old.journal.entries → result ≢ Err SessionFault.JournalFull → HasRoom world.new.journal.entries }
-    ensures no_frame { result ≢ Err SessionFault.BadFrame }
-    ensures no_parcel { result ≢ Err SessionFault.Strange }
+    ensures shown { IfErr result (λ fault. IsShown fault world.new) }
+    ensures told { Carries world.old (F.flight fabric.old) (F.trace fabric.old) → IfErr result NoBreach }
     ensures write_only { result ≢ Err SessionFault.Write → K.faults sink.new ≡ K.faults sink.old }
     ensures fabric_only { result ≢ Err SessionFault.Fabric → F.faults fabric.new ≡ F.faults fabric.old }
 {
@@ -121,7 +120,6 @@ fn serve_line<S: Source, K: Sink, F: Fabric, R: Threads + Wait + Sync, G: Gate>(
 ) -> Result<bool, SessionFault>
     requires rest { progress.old.held ≡ false → IsRested world.old }
     requires jobs { NoneRuns world.old.nodes }
-    requires carrying { IsCarrying (rules world.old) world.old.hand (F.flight fabric.old) (F.trace fabric.old) world.old.journal.entries }
 
     ensures line { result ≡ Ok true → (all : _) (before : _) →
         IsServing console (rules world.old) all before reader.old (S.left source.old) progress.old.held progress.old.cuts.items world.old.journal.entries (K.held sink.old) →
@@ -146,7 +144,7 @@ fn serve_line<S: Source, K: Sink, F: Fabric, R: Threads + Wait + Sync, G: Gate>(
 
     ensures rest { OnOk result (progress.new.held ≡ false → IsRested world.new) }
     ensures jobs { OnOk result (NoneRuns world.new.nodes) }
-    ensures carrying { IsCarrying (rules world.new) world.new.hand (F.flight fabric.new) (F.trace fabric.new) world.new.journal.entries }
+    ensures carrying { Carries world.old (F.flight fabric.old) (F.trace fabric.old) → Carries world.new (F.flight fabric.new) (F.trace fabric.new) }
     ensures count { length world.new.nodes ≡ length world.old.nodes }
     ensures profile { world.new.profile ≡ world.old.profile }
     ensures fewer { result ≡ Ok true → bytes_left reader.new < bytes_left reader.old }
@@ -160,8 +158,8 @@ fn serve_line<S: Source, K: Sink, F: Fabric, R: Threads + Wait + Sync, G: Gate>(
     ensures full_input { result ≡ Err SessionFault.InputFull → reader.new.read ≡ 67108864 }
     ensures out { result ≡ Err SessionFault.OutOfMemory → IsOut reader.new (input_left reader.old (S.left source.old)) (S.left source.new) → ⊥ }
     ensures read_only { result ≢ Err SessionFault.Read → S.faults source.new ≡ S.faults source.old }
-    ensures no_frame { result ≢ Err SessionFault.BadFrame }
-    ensures no_parcel { result ≢ Err SessionFault.Strange }
+    ensures shown { IfErr result (λ fault. IsShown fault world.new) }
+    ensures told { Carries world.old (F.flight fabric.old) (F.trace fabric.old) → IfErr result NoBreach }
     ensures write_only { result ≢ Err SessionFault.Write → K.faults sink.new ≡ K.faults sink.old }
     ensures fabric_only { result ≢ Err SessionFault.Fabric → F.faults fabric.new ≡ F.faults fabric.old }
 {
@@ -194,9 +192,8 @@ fn let_go<K: Sink, F: Fabric, R: Threads + Wait + Sync, G: Gate>(
 ) -> Result<(), SessionFault>
     requires rest { held ≡ false → IsRested world.old }
     requires jobs { NoneRuns world.old.nodes }
-    requires carrying { IsCarrying (rules world.old) world.old.hand (F.flight fabric.old) (F.trace fabric.old) world.old.journal.entries }
 
-    ensures carrying { IsCarrying (rules world.new) world.new.hand (F.flight fabric.new) (F.trace fabric.new) world.new.journal.entries }
+    ensures carrying { Carries world.old (F.flight fabric.old) (F.trace fabric.old) → Carries world.new (F.flight fabric.new) (F.trace fabric.new) }
     ensures count { length world.new.nodes ≡ length world.old.nodes }
     ensures profile { world.new.profile ≡ world.old.profile }
     ensures unfed { IsUnfed world.old.journal.entries world.new.journal.entries }
@@ -209,8 +206,8 @@ fn let_go<K: Sink, F: Fabric, R: Threads + Wait + Sync, G: Gate>(
     ensures fabric { result ≡ Err SessionFault.Fabric → Rose (F.faults fabric.old) (F.faults fabric.new) }
     ensures full { result ≡ Err SessionFault.JournalFull → HasRoom world.new.journal.entries → ⊥ }
     ensures room { HasRoom world.old.journal.entries → result ≢ Err SessionFault.JournalFull → HasRoom world.new.journal.entries }
-    ensures no_frame { result ≢ Err SessionFault.BadFrame }
-    ensures no_parcel { result ≢ Err SessionFault.Strange }
+    ensures shown { IfErr result (λ fault. IsShown fault world.new) }
+    ensures told { Carries world.old (F.flight fabric.old) (F.trace fabric.old) → IfErr result NoBreach }
     ensures write_only { result ≢ Err SessionFault.Write → K.faults sink.new ≡ K.faults sink.old }
     ensures fabric_only { result ≢ Err SessionFault.Fabric → F.faults fabric.new ≡ F.faults fabric.old }
 {
@@ -237,7 +234,6 @@ fn serve_lines<S: Source, K: Sink, F: Fabric, R: Threads + Wait + Sync, G: Gate>
     requires first { progress.old.cuts.items ≡ [] }
     requires empty { world.old.journal.entries ≡ [] }
     requires quiet { IsQuiet world.old.nodes world.old.hand }
-    requires carrying { IsCarrying (rules world.old) world.old.hand (F.flight fabric.old) (F.trace fabric.old) world.old.journal.entries }
 
     ensures whole { (input : _) → S.left source.old ≡ Some input →
         OnOk result (IsWhole console (ByJournal (rules world.old) progress.new.cuts.items) input world.new.journal.entries (K.held sink.old) (K.held sink.new)) }
@@ -256,7 +252,7 @@ fn serve_lines<S: Source, K: Sink, F: Fabric, R: Threads + Wait + Sync, G: Gate>
     ensures few { length progress.new.cuts.items ≤ 67108865 }
 
     ensures rest { OnOk result (IsRested world.new) }
-    ensures carrying { IsCarrying (rules world.new) world.new.hand (F.flight fabric.new) (F.trace fabric.new) world.new.journal.entries }
+    ensures carrying { Carries world.old (F.flight fabric.old) (F.trace fabric.old) → Carries world.new (F.flight fabric.new) (F.trace fabric.new) }
     ensures count { length world.new.nodes ≡ length world.old.nodes }
     ensures profile { world.new.profile ≡ world.old.profile }
 
@@ -266,8 +262,8 @@ fn serve_lines<S: Source, K: Sink, F: Fabric, R: Threads + Wait + Sync, G: Gate>
     ensures full { result ≡ Err SessionFault.JournalFull → HasRoom world.new.journal.entries → ⊥ }
     ensures room { result ≢ Err SessionFault.JournalFull → HasRoom world.new.journal.entries }
     ensures read_only { result ≢ Err SessionFault.Read → S.faults source.new ≡ S.faults source.old }
-    ensures no_frame { result ≢ Err SessionFault.BadFrame }
-    ensures no_parcel { result ≢ Err SessionFault.Strange }
+    ensures shown { IfErr result (λ fault. IsShown fault world.new) }
+    ensures told { Carries world.old (F.flight fabric.old) (F.trace fabric.old) → IfErr result NoBreach }
     ensures write_only { result ≢ Err SessionFault.Write → K.faults sink.new ≡ K.faults sink.old }
     ensures fabric_only { result ≢ Err SessionFault.Fabric → F.faults fabric.new ≡ F.faults fabric.old }
 {
@@ -302,7 +298,6 @@ pub fn serve<S: Source, K: Sink, F: Fabric, R: Threads + Wait + Sync, G: Gate>(
 ) -> (Vec<u64>, Result<(), SessionFault>)
     requires empty { world.old.journal.entries ≡ [] }
     requires quiet { IsQuiet world.old.nodes world.old.hand }
-    requires carrying { IsCarrying (rules world.old) world.old.hand (F.flight fabric.old) (F.trace fabric.old) world.old.journal.entries }
 
     ensures served { let x = ports_of (S.left source.old) (S.taken source.old) (K.held sink.old) (S.faults source.old) (K.faults sink.old) (F.faults fabric.old) in
         let z = ports_of (S.left source.new) (S.taken source.new) (K.held sink.new) (S.faults source.new) (K.faults sink.new) (F.faults fabric.new) in
@@ -311,10 +306,11 @@ pub fn serve<S: Source, K: Sink, F: Fabric, R: Threads + Wait + Sync, G: Gate>(
     ensures cause { let x = ports_of (S.left source.old) (S.taken source.old) (K.held sink.old) (S.faults source.old) (K.faults sink.old) (F.faults fabric.old) in
         let z = ports_of (S.left source.new) (S.taken source.new) (K.held sink.new) (S.faults source.new) (K.faults sink.new) (F.faults fabric.new) in
         HasCause (status_after result.1) (Some world.new) x z }
-    ensures status { IsStatus (status_after result.1) }
+    ensures status { Carries world.old (F.flight fabric.old) (F.trace fabric.old) → IsStatus (status_after result.1) }
+    ensures shown { IfErr result.1 (λ fault. IsShown fault world.new) }
     ensures few { length result.0.items ≤ 67108865 }
     ensures rest { OnOk result.1 (IsRested world.new) }
-    ensures carrying { IsCarrying (rules world.new) world.new.hand (F.flight fabric.new) (F.trace fabric.new) world.new.journal.entries }
+    ensures carrying { Carries world.old (F.flight fabric.old) (F.trace fabric.old) → Carries world.new (F.flight fabric.new) (F.trace fabric.new) }
     ensures count { length world.new.nodes ≡ length world.old.nodes }
     ensures profile { world.new.profile ≡ world.old.profile }
 {

@@ -3,19 +3,21 @@ ghost use Rattle.std.specs.Prelude.{◌≡◌, ◌≢◌, ◌≤◌, ◌<◌, �
 ghost use Rattle.std.specs.List.{concat};
 ghost use Rattle.hpx_journal.specs.Pool.{prints_by, prints_of};
 ghost use Rattle.hpx_journal.specs.Weights.{HasRoom};
+ghost use Rattle.hpx_journal.specs.Whole.{IsCarried};
 ghost use Rattle.hpx_hold.specs.Home.{GrowsAtHome};
 ghost use Rattle.hpx_ports.specs.Faults.{Rose};
 ghost use Rattle.hpx_ports.specs.Told.{followed};
-ghost use Rattle.hpx_world.specs.Away.{IsCarrying};
+ghost use Rattle.hpx_top.specs.Breaches.{breach_in, breach_of, IsOfTurn, IsShown, NoBreach};
 ghost use Rattle.hpx_world.specs.Promises.{KeepsPromises};
 ghost use Rattle.hpx_world.specs.Quiet.{IsQuiet, NoneRuns};
 ghost use Rattle.hpx_world.specs.Steps.{IsUnfed};
 ghost use Rattle.hpx_world.specs.Turns.{DidFeed};
 ghost use Rattle.hpx_world.specs.declared.turns.Turned.{Turned};
 ghost use Rattle.app_console.specs.Lines.{opening};
-ghost use Rattle.hpx_top.specs.Session.{rules, IsRested, FeedsAtMost, Feeds, HasOpened, WritesFront};
+ghost use Rattle.hpx_top.specs.Session.{rules, Carries, IsRested, FeedsAtMost, Feeds, HasOpened, WritesFront};
 
 use crate::acts::AllActs;
+use crate::breach::Breach;
 use crate::consoles::UserConsole;
 use crate::crew::Crew;
 use app_console::lines::opening;
@@ -47,12 +49,27 @@ pub enum SessionFault {
     JournalFull,
     #[error("out of memory")]
     OutOfMemory,
-    #[error("bad frame")]
-    BadFrame,
-    #[error("strange parcel")]
-    Strange,
+    #[error("not carried as it was sent")]
+    Broken(Breach),
     #[error("input full")]
     InputFull,
+}
+
+impl SessionFault {
+    /// The breach, if it is one.
+    pub fn breach(self) -> Option<Breach>
+        ensures { result ≡ breach_in self }
+    {
+        match self {
+            SessionFault::Broken(breach) => Some(breach),
+            SessionFault::Read => None,
+            SessionFault::Write => None,
+            SessionFault::Fabric => None,
+            SessionFault::JournalFull => None,
+            SessionFault::OutOfMemory => None,
+            SessionFault::InputFull => None,
+        }
+    }
 }
 
 pub(crate) fn write<K: Sink>(sink: &mut K, bytes: &[u8]) -> Result<(), SessionFault>
@@ -114,26 +131,31 @@ pub(crate) fn fault_of(fault: WorldFault<AllActs>, room: bool) -> SessionFault
     ensures full_too { (e w : ℕ) (u : _) → fault ≡ WorldFault.JournalFull e w u → result ≡ SessionFault.JournalFull }
     ensures memory { result ≡ SessionFault.OutOfMemory →
         ((u : _) × (fault ≡ WorldFault.OutOfMemory u)) ⊎ ((job : _) × (fault ≡ WorldFault.NotRun job) × (room ≡ true)) }
-    ensures bad_frame { result ≡ SessionFault.BadFrame → (to : _) × (at : _) × (why : _) × (fault ≡ WorldFault.BadFrame to at why) }
-    ensures strange { result ≡ SessionFault.Strange →
-        ((to : _) × (rule : _) × (object : _) × (kept : _) × (fault ≡ WorldFault.Strange to rule object kept))
-        ⊎ ((sent : _) × (taken : _) × (fault ≡ WorldFault.EarlyEnd sent taken)) }
+    ensures broken { breach_in result ≡ breach_of fault }
     ensures other { (result ≢ SessionFault.Read) × (result ≢ SessionFault.Write) × (result ≢ SessionFault.InputFull) }
 {
     match fault {
         WorldFault::Fabric => SessionFault::Fabric,
-        WorldFault::BadFrame {
-            to: _,
-            at: _,
-            why: _,
-        } => SessionFault::BadFrame,
+        WorldFault::BadFrame { to, at, why } => SessionFault::Broken(Breach::BadFrame {
+            to,
+            at,
+            why,
+        }),
         WorldFault::Strange {
-            to: _,
-            rule: _,
-            object: _,
-            kept: _,
-        } => SessionFault::Strange,
-        WorldFault::EarlyEnd { sent: _, taken: _ } => SessionFault::Strange,
+            to,
+            rule,
+            object,
+            kept,
+        } => SessionFault::Broken(Breach::Strange {
+            to,
+            rule,
+            object,
+            kept,
+        }),
+        WorldFault::EarlyEnd { sent, taken } => SessionFault::Broken(Breach::EarlyEnd {
+            sent,
+            taken,
+        }),
         WorldFault::JournalFull {
             entries: _,
             weight: _,
@@ -153,9 +175,8 @@ pub(crate) fn begin<F: Fabric>(
     fabric: &mut F,
 ) -> Result<(), SessionFault>
     requires short { length text ≤ 1025 }
-    requires carrying { IsCarrying (rules world.old) world.old.hand (F.flight fabric.old) (F.trace fabric.old) world.old.journal.entries }
 
-    ensures carrying { IsCarrying (rules world.new) world.new.hand (F.flight fabric.new) (F.trace fabric.new) world.new.journal.entries }
+    ensures carrying { Carries world.old (F.flight fabric.old) (F.trace fabric.old) → Carries world.new (F.flight fabric.new) (F.trace fabric.new) }
     ensures count { length world.new.nodes ≡ length world.old.nodes }
     ensures profile { world.new.profile ≡ world.old.profile }
     ensures fed { OnOk result ((turned : Turned) × DidFeed text turned world.old.nodes world.new.nodes world.old.journal.entries world.new.journal.entries) }
@@ -176,27 +197,25 @@ pub(crate) fn begin<F: Fabric>(
     }
 }
 
-/// Lets the world come to rest, by those who run its bodies. The fabric tells: no frame without a parcel comes, and none that breaks a
-/// rule.
+/// Lets the world come to rest, by those who run its bodies.
 pub(crate) fn settle<F: Fabric, R: Threads + Wait + Sync, G: Gate>(
     crew: &Crew<R, G>,
     alloc: Global,
     world: &mut World<AllActs>,
     fabric: &mut F,
 ) -> Result<(), SessionFault>
-    requires carrying { IsCarrying (rules world.old) world.old.hand (F.flight fabric.old) (F.trace fabric.old) world.old.journal.entries }
-
-    ensures carrying { IsCarrying (rules world.new) world.new.hand (F.flight fabric.new) (F.trace fabric.new) world.new.journal.entries }
+    ensures carrying { Carries world.old (F.flight fabric.old) (F.trace fabric.old) → Carries world.new (F.flight fabric.new) (F.trace fabric.new) }
     ensures count { length world.new.nodes ≡ length world.old.nodes }
     ensures profile { world.new.profile ≡ world.old.profile }
     ensures unfed { IsUnfed world.old.journal.entries world.new.journal.entries }
-    ensures promises { KeepsPromises (rules world.new) world.new.journal.entries }
+    ensures promises { IsCarried (rules world.new) [] world.new.journal.entries → KeepsPromises (rules world.new) world.new.journal.entries }
     ensures rest { NoneRuns world.old.nodes → OnOk result (IsRested world.new) }
 
     ensures fabric { result ≡ Err SessionFault.Fabric → Rose (F.faults fabric.old) (F.faults fabric.new) }
     ensures full { result ≡ Err SessionFault.JournalFull → HasRoom world.new.journal.entries → ⊥ }
     ensures room { result ≢ Err SessionFault.JournalFull → HasRoom world.new.journal.entries }
-    ensures cause { IfErr result (λ fault. (fault ≡ SessionFault.Fabric) ⊎ (fault ≡ SessionFault.JournalFull) ⊎ (fault ≡ SessionFault.OutOfMemory)) }
+    ensures cause { IfErr result (λ fault. IsOfTurn fault world.new) }
+    ensures told { Carries world.old (F.flight fabric.old) (F.trace fabric.old) → IfErr result NoBreach }
     ensures stands { result ≢ Err SessionFault.Fabric → F.faults fabric.new ≡ F.faults fabric.old }
 {
     let drained = drain_by(crew.rt, alloc, world, fabric, crew.threads, crew.gate);
@@ -222,9 +241,8 @@ pub(crate) fn feed<F: Fabric, R: Threads + Wait + Sync, G: Gate>(
 ) -> Result<(), SessionFault>
     requires short { length text ≤ 1025 }
     requires quiet { IsQuiet world.old.nodes world.old.hand }
-    requires carrying { IsCarrying (rules world.old) world.old.hand (F.flight fabric.old) (F.trace fabric.old) world.old.journal.entries }
 
-    ensures carrying { IsCarrying (rules world.new) world.new.hand (F.flight fabric.new) (F.trace fabric.new) world.new.journal.entries }
+    ensures carrying { Carries world.old (F.flight fabric.old) (F.trace fabric.old) → Carries world.new (F.flight fabric.new) (F.trace fabric.new) }
     ensures count { length world.new.nodes ≡ length world.old.nodes }
     ensures profile { world.new.profile ≡ world.old.profile }
     ensures fed { OnOk result (Feeds (rules world.old) text world.old.journal.entries world.new.journal.entries) }
@@ -235,8 +253,8 @@ pub(crate) fn feed<F: Fabric, R: Threads + Wait + Sync, G: Gate>(
     ensures full { result ≡ Err SessionFault.JournalFull → HasRoom world.new.journal.entries → ⊥ }
     ensures room { result ≢ Err SessionFault.JournalFull → HasRoom world.new.journal.entries }
     ensures other { (result ≢ Err SessionFault.Read) × (result ≢ Err SessionFault.Write) × (result ≢ Err SessionFault.InputFull) }
-    ensures no_frame { result ≢ Err SessionFault.BadFrame }
-    ensures no_parcel { result ≢ Err SessionFault.Strange }
+    ensures shown { IfErr result (λ fault. IsShown fault world.new) }
+    ensures told { Carries world.old (F.flight fabric.old) (F.trace fabric.old) → IfErr result NoBreach }
     ensures stands { result ≢ Err SessionFault.Fabric → F.faults fabric.new ≡ F.faults fabric.old }
 {
     begin(alloc, world, text, fabric)?;
@@ -251,9 +269,8 @@ fn make_accumulator<F: Fabric, R: Threads + Wait + Sync, G: Gate>(
     fabric: &mut F,
 ) -> Result<(), SessionFault>
     requires quiet { IsQuiet world.old.nodes world.old.hand }
-    requires carrying { IsCarrying (rules world.old) world.old.hand (F.flight fabric.old) (F.trace fabric.old) world.old.journal.entries }
 
-    ensures carrying { IsCarrying (rules world.new) world.new.hand (F.flight fabric.new) (F.trace fabric.new) world.new.journal.entries }
+    ensures carrying { Carries world.old (F.flight fabric.old) (F.trace fabric.old) → Carries world.new (F.flight fabric.new) (F.trace fabric.new) }
     ensures count { length world.new.nodes ≡ length world.old.nodes }
     ensures profile { world.new.profile ≡ world.old.profile }
     ensures fed { OnOk result (Feeds (rules world.old) opening world.old.journal.entries world.new.journal.entries) }
@@ -264,8 +281,8 @@ fn make_accumulator<F: Fabric, R: Threads + Wait + Sync, G: Gate>(
     ensures full { result ≡ Err SessionFault.JournalFull → HasRoom world.new.journal.entries → ⊥ }
     ensures room { HasRoom world.old.journal.entries → result ≢ Err SessionFault.JournalFull → HasRoom world.new.journal.entries }
     ensures other { (result ≢ Err SessionFault.Read) × (result ≢ Err SessionFault.Write) × (result ≢ Err SessionFault.InputFull) }
-    ensures no_frame { result ≢ Err SessionFault.BadFrame }
-    ensures no_parcel { result ≢ Err SessionFault.Strange }
+    ensures shown { IfErr result (λ fault. IsShown fault world.new) }
+    ensures told { Carries world.old (F.flight fabric.old) (F.trace fabric.old) → IfErr result NoBreach }
     ensures stands { result ≢ Err SessionFault.Fabric → F.faults fabric.new ≡ F.faults fabric.old }
 {
     match opening(alloc) {
@@ -284,9 +301,8 @@ pub(crate) fn open<F: Fabric, R: Threads + Wait + Sync, G: Gate>(
 ) -> Result<(), SessionFault>
     requires empty { world.old.journal.entries ≡ [] }
     requires quiet { IsQuiet world.old.nodes world.old.hand }
-    requires carrying { IsCarrying (rules world.old) world.old.hand (F.flight fabric.old) (F.trace fabric.old) world.old.journal.entries }
 
-    ensures carrying { IsCarrying (rules world.new) world.new.hand (F.flight fabric.new) (F.trace fabric.new) world.new.journal.entries }
+    ensures carrying { Carries world.old (F.flight fabric.old) (F.trace fabric.old) → Carries world.new (F.flight fabric.new) (F.trace fabric.new) }
     ensures count { length world.new.nodes ≡ length world.old.nodes }
     ensures profile { world.new.profile ≡ world.old.profile }
     ensures opened { OnOk result (HasOpened console (rules world.old) world.old.journal.entries world.new.journal.entries) }
@@ -298,8 +314,8 @@ pub(crate) fn open<F: Fabric, R: Threads + Wait + Sync, G: Gate>(
     ensures full { result ≡ Err SessionFault.JournalFull → HasRoom world.new.journal.entries → ⊥ }
     ensures room { HasRoom world.old.journal.entries → result ≢ Err SessionFault.JournalFull → HasRoom world.new.journal.entries }
     ensures other { (result ≢ Err SessionFault.Read) × (result ≢ Err SessionFault.Write) × (result ≢ Err SessionFault.InputFull) }
-    ensures no_frame { result ≢ Err SessionFault.BadFrame }
-    ensures no_parcel { result ≢ Err SessionFault.Strange }
+    ensures shown { IfErr result (λ fault. IsShown fault world.new) }
+    ensures told { Carries world.old (F.flight fabric.old) (F.trace fabric.old) → IfErr result NoBreach }
     ensures stands { result ≢ Err SessionFault.Fabric → F.faults fabric.new ≡ F.faults fabric.old }
 {
     match console {

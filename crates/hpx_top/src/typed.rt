@@ -1,18 +1,18 @@
 //! What a typed line does to the world.
-ghost use Rattle.std.specs.Prelude.{◌≡◌, ◌≢◌, ◌<◌, ◌∷◌, ◌⊎◌, ℕ, Ok, Err, OnOk, IfErr, length, vec_capacity, false};
+ghost use Rattle.std.specs.Prelude.{◌≡◌, ◌≢◌, ◌<◌, ◌∷◌, [], ℕ, Ok, Err, OnOk, IfErr, length, vec_capacity, false};
 ghost use Rattle.hpx_journal.specs.Weights.{HasRoom};
-ghost use Rattle.hpx_journal.specs.Whole.{replayed};
+ghost use Rattle.hpx_journal.specs.Whole.{IsCarried, replayed};
 ghost use Rattle.hpx_hold.specs.Home.{GrowsAtHome, WaitsBusy};
 ghost use Rattle.hpx_hold.specs.Turns.{MakesTurns};
 ghost use Rattle.hpx_own.specs.Lines.{handled_as};
 ghost use Rattle.hpx_ports.specs.Faults.{Rose};
-ghost use Rattle.hpx_world.specs.Away.{IsCarrying};
+ghost use Rattle.hpx_top.specs.Breaches.{IsOfTurn, NoBreach};
 ghost use Rattle.hpx_world.specs.Quiet.{NoneRuns};
 ghost use Rattle.hpx_world.specs.Steps.{IsUnfed};
 ghost use Rattle.app_console.specs.Lines.{is_long};
 ghost use Rattle.hpx_top.specs.Texts.{Typed, held_by, mark_of, owns};
 ghost use Rattle.hpx_top.specs.Parts.{Does, GrowsBy, IsTurned};
-ghost use Rattle.hpx_top.specs.Session.{rules, IsRested, HasBegun};
+ghost use Rattle.hpx_top.specs.Session.{rules, Carries, IsRested, HasBegun};
 
 use crate::acts::AllActs;
 use crate::consoles::UserConsole;
@@ -37,20 +37,19 @@ fn stay<F: Fabric>(
     world: &mut World<AllActs>,
     fabric: &mut F,
 ) -> Result<(), SessionFault>
-    requires carrying { IsCarrying (rules world.old) world.old.hand (F.flight fabric.old) (F.trace fabric.old) world.old.journal.entries }
-
-    ensures carrying { IsCarrying (rules world.new) world.new.hand (F.flight fabric.new) (F.trace fabric.new) world.new.journal.entries }
+    ensures carrying { Carries world.old (F.flight fabric.old) (F.trace fabric.old) → Carries world.new (F.flight fabric.new) (F.trace fabric.new) }
     ensures count { length world.new.nodes ≡ length world.old.nodes }
     ensures profile { world.new.profile ≡ world.old.profile }
     ensures home { GrowsAtHome world.old.journal.entries world.new.journal.entries }
     ensures unfed { IsUnfed world.old.journal.entries world.new.journal.entries }
-    ensures waits { OnOk result (WaitsBusy (replayed (rules world.old) world.new.journal.entries)) }
+    ensures waits { OnOk result (IsCarried (rules world.old) [] world.new.journal.entries → WaitsBusy (replayed (rules world.old) world.new.journal.entries)) }
     ensures jobs { OnOk result (NoneRuns world.old.nodes → NoneRuns world.new.nodes) }
     ensures apart { fabric.new ≡ fabric.old }
 
     ensures full { result ≡ Err SessionFault.JournalFull → HasRoom world.new.journal.entries → ⊥ }
     ensures room { result ≢ Err SessionFault.JournalFull → HasRoom world.new.journal.entries }
-    ensures cause { IfErr result (λ fault. (fault ≡ SessionFault.JournalFull) ⊎ (fault ≡ SessionFault.OutOfMemory)) }
+    ensures cause { IfErr result (λ fault. (fault ≢ SessionFault.Fabric) × IsOfTurn fault world.new) }
+    ensures told { Carries world.old (F.flight fabric.old) (F.trace fabric.old) → IfErr result NoBreach }
 {
     match stay_home(alloc, world, fabric) {
         Ok(()) => Ok(()),
@@ -66,9 +65,8 @@ fn go_on<F: Fabric>(
     fabric: &mut F,
 ) -> Result<(), SessionFault>
     requires jobs { NoneRuns world.old.nodes }
-    requires carrying { IsCarrying (rules world.old) world.old.hand (F.flight fabric.old) (F.trace fabric.old) world.old.journal.entries }
 
-    ensures carrying { IsCarrying (rules world.new) world.new.hand (F.flight fabric.new) (F.trace fabric.new) world.new.journal.entries }
+    ensures carrying { Carries world.old (F.flight fabric.old) (F.trace fabric.old) → Carries world.new (F.flight fabric.new) (F.trace fabric.new) }
     ensures count { length world.new.nodes ≡ length world.old.nodes }
     ensures profile { world.new.profile ≡ world.old.profile }
     ensures turns { OnOk result ((made : ℕ) × MakesTurns (rules world.old) most made world.old.journal.entries world.new.journal.entries) }
@@ -78,7 +76,8 @@ fn go_on<F: Fabric>(
     ensures fabric { result ≡ Err SessionFault.Fabric → Rose (F.faults fabric.old) (F.faults fabric.new) }
     ensures full { result ≡ Err SessionFault.JournalFull → HasRoom world.new.journal.entries → ⊥ }
     ensures room { result ≢ Err SessionFault.JournalFull → HasRoom world.new.journal.entries }
-    ensures cause { IfErr result (λ fault. (fault ≡ SessionFault.Fabric) ⊎ (fault ≡ SessionFault.JournalFull) ⊎ (fault ≡ SessionFault.OutOfMemory)) }
+    ensures cause { IfErr result (λ fault. IsOfTurn fault world.new) }
+    ensures told { Carries world.old (F.flight fabric.old) (F.trace fabric.old) → IfErr result NoBreach }
     ensures stands { result ≢ Err SessionFault.Fabric → F.faults fabric.new ≡ F.faults fabric.old }
 {
     match turns(alloc, world, most, fabric) {
@@ -95,9 +94,8 @@ fn take_turns<F: Fabric>(
     fabric: &mut F,
 ) -> Result<(), SessionFault>
     requires jobs { NoneRuns world.old.nodes }
-    requires carrying { IsCarrying (rules world.old) world.old.hand (F.flight fabric.old) (F.trace fabric.old) world.old.journal.entries }
 
-    ensures carrying { IsCarrying (rules world.new) world.new.hand (F.flight fabric.new) (F.trace fabric.new) world.new.journal.entries }
+    ensures carrying { Carries world.old (F.flight fabric.old) (F.trace fabric.old) → Carries world.new (F.flight fabric.new) (F.trace fabric.new) }
     ensures count { length world.new.nodes ≡ length world.old.nodes }
     ensures profile { world.new.profile ≡ world.old.profile }
     ensures turned { OnOk result (GrowsBy (IsTurned (rules world.old) most world.old.journal.entries) world.old.journal.entries world.new.journal.entries) }
@@ -107,7 +105,8 @@ fn take_turns<F: Fabric>(
     ensures fabric { result ≡ Err SessionFault.Fabric → Rose (F.faults fabric.old) (F.faults fabric.new) }
     ensures full { result ≡ Err SessionFault.JournalFull → HasRoom world.new.journal.entries → ⊥ }
     ensures room { result ≢ Err SessionFault.JournalFull → HasRoom world.new.journal.entries }
-    ensures cause { IfErr result (λ fault. (fault ≡ SessionFault.Fabric) ⊎ (fault ≡ SessionFault.JournalFull) ⊎ (fault ≡ SessionFault.OutOfMemory)) }
+    ensures cause { IfErr result (λ fault. IsOfTurn fault world.new) }
+    ensures told { Carries world.old (F.flight fabric.old) (F.trace fabric.old) → IfErr result NoBreach }
     ensures stands { result ≢ Err SessionFault.Fabric → F.faults fabric.new ≡ F.faults fabric.old }
 {
     go_on(alloc, world, most, fabric)?;
@@ -127,9 +126,8 @@ fn feed_line<F: Fabric, R: Threads + Wait + Sync, G: Gate>(
     requires short { is_long line.now ≡ false }
     requires fed { handled_as (owns console) line.now ≡ Handled.Fed }
     requires jobs { NoneRuns world.old.nodes }
-    requires carrying { IsCarrying (rules world.old) world.old.hand (F.flight fabric.old) (F.trace fabric.old) world.old.journal.entries }
 
-    ensures carrying { IsCarrying (rules world.new) world.new.hand (F.flight fabric.new) (F.trace fabric.new) world.new.journal.entries }
+    ensures carrying { Carries world.old (F.flight fabric.old) (F.trace fabric.old) → Carries world.new (F.flight fabric.new) (F.trace fabric.new) }
     ensures count { length world.new.nodes ≡ length world.old.nodes }
     ensures profile { world.new.profile ≡ world.old.profile }
     ensures did { OnOk result (GrowsBy (Does (rules world.old) (mark_of console ∷ line.now) held (Typed Handled.Fed) world.old.journal.entries) world.old.journal.entries world.new.journal.entries) }
@@ -140,7 +138,8 @@ fn feed_line<F: Fabric, R: Threads + Wait + Sync, G: Gate>(
     ensures fabric { result ≡ Err SessionFault.Fabric → Rose (F.faults fabric.old) (F.faults fabric.new) }
     ensures full { result ≡ Err SessionFault.JournalFull → HasRoom world.new.journal.entries → ⊥ }
     ensures room { HasRoom world.old.journal.entries → result ≢ Err SessionFault.JournalFull → HasRoom world.new.journal.entries }
-    ensures cause { IfErr result (λ fault. (fault ≡ SessionFault.Fabric) ⊎ (fault ≡ SessionFault.JournalFull) ⊎ (fault ≡ SessionFault.OutOfMemory)) }
+    ensures cause { IfErr result (λ fault. IsOfTurn fault world.new) }
+    ensures told { Carries world.old (F.flight fabric.old) (F.trace fabric.old) → IfErr result NoBreach }
     ensures stands { result ≢ Err SessionFault.Fabric → F.faults fabric.new ≡ F.faults fabric.old }
 {
     let Ok(text) = marked(alloc, console.mark(), line.as_slice()) else {
@@ -170,9 +169,8 @@ pub(crate) fn handle<F: Fabric, R: Threads + Wait + Sync, G: Gate>(
     requires noted { length progress.now.cuts.items < vec_capacity progress.now.cuts }
     requires rest { progress.now.held ≡ false → IsRested world.old }
     requires jobs { NoneRuns world.old.nodes }
-    requires carrying { IsCarrying (rules world.old) world.old.hand (F.flight fabric.old) (F.trace fabric.old) world.old.journal.entries }
 
-    ensures carrying { IsCarrying (rules world.new) world.new.hand (F.flight fabric.new) (F.trace fabric.new) world.new.journal.entries }
+    ensures carrying { Carries world.old (F.flight fabric.old) (F.trace fabric.old) → Carries world.new (F.flight fabric.new) (F.trace fabric.new) }
     ensures count { length world.new.nodes ≡ length world.old.nodes }
     ensures profile { world.new.profile ≡ world.old.profile }
     ensures did { OnOk result (GrowsBy (Does (rules world.old) (mark_of console ∷ line.now) progress.now.held (Typed handled) world.old.journal.entries) world.old.journal.entries world.new.journal.entries) }
@@ -183,7 +181,8 @@ pub(crate) fn handle<F: Fabric, R: Threads + Wait + Sync, G: Gate>(
     ensures fabric { result ≡ Err SessionFault.Fabric → Rose (F.faults fabric.old) (F.faults fabric.new) }
     ensures full { result ≡ Err SessionFault.JournalFull → HasRoom world.new.journal.entries → ⊥ }
     ensures room { HasRoom world.old.journal.entries → result ≢ Err SessionFault.JournalFull → HasRoom world.new.journal.entries }
-    ensures cause { IfErr result (λ fault. (fault ≡ SessionFault.Fabric) ⊎ (fault ≡ SessionFault.JournalFull) ⊎ (fault ≡ SessionFault.OutOfMemory)) }
+    ensures cause { IfErr result (λ fault. IsOfTurn fault world.new) }
+    ensures told { Carries world.old (F.flight fabric.old) (F.trace fabric.old) → IfErr result NoBreach }
     ensures stands { result ≢ Err SessionFault.Fabric → F.faults fabric.new ≡ F.faults fabric.old }
 {
     let held = progress.held;

@@ -1,5 +1,7 @@
 //! Runs of the top call over ports in memory, and what each leaves, in plain values.
 use crate::running::{OBJECT, sent};
+use hpx_journal::entry::Event;
+use hpx_journal::journal::Journal;
 use hpx_judged::worlds::{Asks, PROFILE, asks_in, is_legal};
 use hpx_ports::gate::OpenGate;
 use hpx_ports::memory_fabric::MemFabric;
@@ -32,14 +34,17 @@ pub const NONE: Faults = Faults {
     delivers: &[],
 };
 
-/// What a world tells: the entries of its journal and their weight, how many frames brought an object, what was asked of credit,
-/// whether nothing is under way, and whether the judge accepts the journal by the usual profile.
+/// What a world tells: the entries of its journal and their weight, how many lines were fed, how many frames brought an object, what was
+/// asked of credit, whether a frame is in hand, whether nothing is under way, and whether the judge accepts the journal by the usual
+/// profile.
 #[derive(Clone, Copy)]
 pub struct Told {
     pub entries: u64,
     pub weight: u64,
+    pub lines: usize,
     pub objects: usize,
     pub asks: Asks,
+    pub hand: bool,
     pub quiet: bool,
     pub legal: bool,
 }
@@ -154,14 +159,27 @@ pub fn end_of<R: Threads + Wait + Sync>(
     Ok(run_over(rt, alloc, &words, ports, order, sends, delivers))
 }
 
+/// How many lines were fed.
+fn fed(journal: &Journal) -> usize {
+    let mut lines = 0usize;
+    for entry in journal.as_slice() {
+        if let Event::Line { .. } = &entry.event {
+            lines = lines.saturating_add(1);
+        }
+    }
+    lines
+}
+
 /// What a world tells.
 fn tells(alloc: Global, world: &World<AllActs>) -> Told {
     let journal = world.journal();
     Told {
         entries: journal.entries(),
         weight: journal.weight(),
+        lines: fed(journal),
         objects: sent(journal, OBJECT),
         asks: asks_in(journal),
+        hand: world.in_hand().is_some(),
         quiet: world.quiet(),
         legal: is_legal(alloc, world, PROFILE),
     }

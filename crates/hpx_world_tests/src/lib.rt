@@ -3,8 +3,6 @@
 #![tactic(auto)]
 
 #[cfg(test)]
-mod fabrics;
-#[cfg(test)]
 mod limits;
 #[cfg(test)]
 mod orders;

@@ -1,6 +1,6 @@
 //! The greatest line, frame and hand.
-use crate::fabrics::Strangers;
 use crate::story::{Ask, Got, Row, Story, assert_rows};
+use hpx_ports::loose_fabric::LooseFabric;
 use hpx_ports::memory_fabric::SureFabric;
 use hpx_ports::order::Order;
 use hpx_value::items::{Bytes, Items};
@@ -58,10 +58,10 @@ fn texts(alloc: Global, lengths: &[u64]) -> Result<Bytes, OutOfMemory> {
 }
 
 /// A world of two localities over a fabric that brings a frame to locality 1.
-fn brought(alloc: Global, frame: Bytes) -> Result<Story<Strangers>, OutOfMemory> {
+fn brought(alloc: Global, frame: Bytes) -> Result<Story<LooseFabric>, OutOfMemory> {
     let mut brings = VecDeque::new(alloc);
-    brings.push_back((1, frame))?;
-    Story::boot(alloc, 2, false, Strangers { brings })
+    brings.push_back(Ok(Some((1, frame))))?;
+    Story::boot(alloc, 2, false, LooseFabric::new(brings))
 }
 
 /// The lengths of the texts in a frame, how many bytes it has, what comes of it, and how many entries.
@@ -95,7 +95,7 @@ const LONG: [Long; 4] = [
 fn assert_taken(
     rt: &impl Abort,
     alloc: Global,
-    story: &mut Story<Strangers>,
+    story: &mut Story<LooseFabric>,
     row: &Long,
 ) -> Result<(), Fail> {
     let (_, bytes, want, entries) = row;

@@ -1,6 +1,6 @@
 //! Why turns, steps and drains are refused, and what stays.
-use crate::fabrics::Strangers;
 use crate::story::{Ask, Got, Row, Story, assert_rows, assert_story};
+use hpx_ports::loose_fabric::LooseFabric;
 use hpx_ports::memory_fabric::{MemFabric, SureFabric};
 use hpx_ports::order::Order;
 use hpx_value::items::{Bytes, Items, Lengths};
@@ -37,10 +37,10 @@ const NEW: &str =
     "0101 0000 0000000000000002 0000000200000007 0000000000000001 0005 0000 01 0000000100000003 0000000000000001 00000000";
 
 /// A world of two localities over a fabric that brings one frame to a locality, and nothing else.
-fn strange(alloc: Global, to: u32, frame: &str) -> Result<Story<Strangers>, Fail> {
+fn strange(alloc: Global, to: u32, frame: &str) -> Result<Story<LooseFabric>, Fail> {
     let mut brings = VecDeque::new(alloc);
-    brings.push_back((to, hex(alloc, frame)?))?;
-    Ok(Story::boot(alloc, 2, false, Strangers { brings })?)
+    brings.push_back(Ok(Some((to, hex(alloc, frame)?))))?;
+    Ok(Story::boot(alloc, 2, false, LooseFabric::new(brings))?)
 }
 
 /// To whom a frame comes, and what comes of it.
@@ -75,7 +75,7 @@ const BROUGHT: [Brought; 7] = [
 /// The frame that is in hand is this one, to this locality.
 fn assert_in_hand(
     rt: &impl Abort,
-    story: &Story<Strangers>,
+    story: &Story<LooseFabric>,
     to: u32,
     frame: &[u8],
 ) -> Result<(), Fail> {
@@ -93,7 +93,7 @@ fn assert_in_hand(
 fn assert_stays(
     rt: &impl Abort,
     alloc: Global,
-    story: &mut Story<Strangers>,
+    story: &mut Story<LooseFabric>,
     row: &Brought,
 ) -> Result<(), Fail> {
     let (to, frame, want) = row;
@@ -109,7 +109,7 @@ fn assert_stays(
 fn assert_refused(
     rt: &impl Abort,
     alloc: Global,
-    story: &mut Story<Strangers>,
+    story: &mut Story<LooseFabric>,
     row: &Brought,
 ) -> Result<(), Fail> {
     assert!(rt; story.world.in_hand().is_none());
@@ -137,7 +137,7 @@ fn a_frame_that_is_refused_stays_in_hand(rt: HostRuntime) -> Result<(), Fail> {
 fn assert_illegal(
     rt: &impl Abort,
     alloc: Global,
-    story: &mut Story<Strangers>,
+    story: &mut Story<LooseFabric>,
 ) -> Result<(), Fail> {
     assert_rows(rt, alloc, story, &[(Ask::Take, Got::Moved, 1, false)])?;
     assert!(rt; !story.is_legal(alloc));
@@ -166,7 +166,7 @@ const LOST: [Row; 7] = [
 #[test]
 fn a_frame_that_is_lost_ends_early(rt: HostRuntime) -> Result<(), Fail> {
     let brings = VecDeque::new(rt.alloc());
-    let mut story = Story::boot(rt.alloc(), 2, false, Strangers { brings })?;
+    let mut story = Story::boot(rt.alloc(), 2, false, LooseFabric::new(brings))?;
     assert_story(&rt, rt.alloc(), &mut story, &LOST)
 }
 

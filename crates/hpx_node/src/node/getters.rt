@@ -22,6 +22,9 @@ use hpx_value::gid::Gid;
 fn held_in_queues(records: &Records<Letter>, o: Gid) -> u128
     ensures { result ≡ min (2 ^ 128 - 1) (sum_by (λ w. credit_in o (ids_held w.item)) records.now.waiting) }
 {
+    if records.waiting() == 0 {
+        return 0;
+    }
     records.weight(
         |letter|
             ensures { result ≡ min (2 ^ 128 - 1) (credit_in o (ids_held letter.now)) }

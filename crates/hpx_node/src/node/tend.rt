@@ -18,10 +18,10 @@ use hpx_journal::local::move_to;
 use hpx_parcel::parcel::Parcel;
 use hpx_tables::find::{is_busy, target};
 use hpx_tables::kept::{Fit, Letter};
+use hpx_tables::queue::Queue;
 use hpx_value::acts::Acts;
 use hpx_value::gid::Gid;
 use hpx_value::memory::OutOfMemory;
-use std::collections::VecDeque;
 
 /// Of which object a message tells that it has landed.
 pub(crate) fn landed_in(parcel: &Parcel) -> Option<Gid>
@@ -35,7 +35,7 @@ pub(crate) fn landed_in(parcel: &Parcel) -> Option<Gid>
 
 /// Where the first of these actions stands that is on an object.
 #[tactic(auto, using(hpx_part::proofs::Keyed::find_step, hpx_part::proofs::Keyed::find_at_index))]
-fn acted_on_at(accepted: &VecDeque<Fit>, o: Gid) -> Option<usize>
+fn acted_on_at(accepted: &Queue<Fit>, o: Gid) -> Option<usize>
     ensures some { IfSome result (λ i. (act : _) × (slice_get accepted.now.items i ≡ Some act) × (acts_on o act ≡ true)) }
     ensures none { IfNone result (list_any (acts_on o) accepted.now.items ≡ false) }
 {

@@ -12,10 +12,10 @@ use hpx_journal::local::move_to;
 use hpx_parcel::parcel::Parcel;
 use hpx_tables::find::target;
 use hpx_tables::kept::{Fit, Letter};
+use hpx_tables::queue::Queue;
 use hpx_value::acts::Acts;
 use hpx_value::gid::Gid;
 use hpx_value::value::Act;
-use std::collections::VecDeque;
 
 /// What is done with an action.
 #[derive(Clone, Copy, Debug, PartialEq, Eq)]
@@ -42,7 +42,7 @@ fn grants(parcel: &Parcel, o: Gid) -> bool
 
 /// Where the first message stands that grants a move of an object.
 #[tactic(auto, using(hpx_part::proofs::Keyed::find_step, hpx_part::proofs::Keyed::find_at_index))]
-pub(crate) fn granted_at(leaving: &VecDeque<Letter>, o: Gid) -> Option<usize>
+pub(crate) fn granted_at(leaving: &Queue<Letter>, o: Gid) -> Option<usize>
     ensures some { IfSome result (λ i. (p : _) × (slice_get leaving.now.items i ≡ Some p) × (grants o p ≡ true)) }
     ensures none { IfNone result (list_any (grants o) leaving.now.items ≡ false) }
 {

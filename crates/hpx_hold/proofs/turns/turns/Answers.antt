@@ -49,31 +49,27 @@ returns-then-not-branch-clause-goes g c =
     }
 
 pub returns-then-not-branch-clause-quiet : goal.returns-then-not-branch-clause-quiet
-returns-then-not-branch-clause-quiet g c = λ carrying none less.
+returns-then-not-branch-clause-quiet g c = λ carried none less.
     let i = c.loop-made.invariant in
     let n = c.step.new.self in
     let idle = c.in_ok-step.ensures.idle (ap (λ b. Ok b) c.if-not-branch.true) in
     idle_quiet g.A.Acts.act_of n.profile n.nodes n.journal.entries c.standing.ensures
-    (length c.args.world.now.nodes) c.args.world.now.profile (c.step.ensures.count ∙ i.count) (c.step.ensures.profile ∙ i.profile) n.hand _ _
+    (length c.args.world.now.nodes) c.args.world.now.profile (c.step.ensures.count ∙ i.count) (c.step.ensures.profile ∙ i.profile) n.hand _
     (λ m kind here s a some few h state act. g.met.A.Acts.keeps_laws m kind here s a some few h state act)
-    (carrying_at g.A.Acts.act_of (length c.args.world.now.nodes) (length c.loop-made.world.nodes) c.args.world.now.profile c.loop-made.world.profile
-    _ _ _ _ _ _ _ _ i.count i.profile c.step.ensures.carrying (i.carrying carrying))
-    idle.applies (c.in_ok-step.ensures.jobs tt (i.jobs none))
+    carried idle.taken idle.applies (c.in_ok-step.ensures.jobs tt (i.jobs none))
 
 pub returns-then-not-branch-clause-turns : goal.returns-then-not-branch-clause-turns
-returns-then-not-branch-clause-turns g c = λ carrying none.
+returns-then-not-branch-clause-turns g c = λ none.
     let i = c.loop-made.invariant in
     let n = c.step.new.self in
     let idle = c.in_ok-step.ensures.idle (ap (λ b. Ok b) c.if-not-branch.true) in
-    let carried = carrying_at g.A.Acts.act_of (length c.args.world.now.nodes) (length c.loop-made.world.nodes) c.args.world.now.profile c.loop-made.world.profile
-    _ _ _ _ _ _ _ _ i.count i.profile c.step.ensures.carrying (i.carrying carrying) in
     makes_turns g.A.Acts.act_of (rules_in g.A.Acts.act_of c.args.world.now) c.args.most _ _ _ n.journal.entries i.goes idle.same.journal (omega arith)
-    (inr (quiet_rest g.A.Acts.act_of n.profile n.nodes n.journal.entries c.standing.ensures
-    (length c.args.world.now.nodes) c.args.world.now.profile (c.step.ensures.count ∙ i.count) (c.step.ensures.profile ∙ i.profile) n.hand carried.carried
-    (returns-then-not-branch-clause-quiet g c carrying none (omega arith))))
+    (inr (λ carried. quiet_rest g.A.Acts.act_of n.profile n.nodes n.journal.entries c.standing.ensures
+    (length c.args.world.now.nodes) c.args.world.now.profile (c.step.ensures.count ∙ i.count) (c.step.ensures.profile ∙ i.profile) n.hand carried
+    (returns-then-not-branch-clause-quiet g c carried none (omega arith))))
 
 pub returns-clause-turns : goal.returns-clause-turns
-returns-clause-turns g c = λ carrying none.
+returns-clause-turns g c = λ none.
     let i = c.loop-made.invariant in
     let r = rules_in g.A.Acts.act_of c.args.world.now in
     let all : c.loop-made.made ≡ c.args.most = omega arith in

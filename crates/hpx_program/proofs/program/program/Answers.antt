@@ -1,6 +1,7 @@
 use Rattle.std.specs.Prelude.{Some, None}
-use Rattle.std.proofs.Common.{◌≡◌, inr, sym, subst}
+use Rattle.std.proofs.Common.{◌≡◌, inr, sym, subst, arith}
 use Rattle.hpx_top.specs.Usage.{notice_in}
+use Rattle.hpx_top.proofs.DoneLemmas.{no_breach_told}
 use Rattle.hpx_program.proofs.Served.{run_in, said, told_words}
 use Rattle.hpx_program.proofs.program.program.Goals as goal
 
@@ -19,3 +20,6 @@ pub returns-in-Ok-clause-told : goal.returns-in-Ok-clause-told
 returns-in-Ok-clause-told g c = λ words notice told asked.
     let printed = c.run-end.ensures.told notice (subst (λ ws. notice_in ws ≡ Some notice) (sym (told_words c.in-Ok.words words _ c.in-Ok.ensures told)) asked) in
     (printed.0, inr printed.1)
+
+pub returns-in-Err-clause-fault : goal.returns-in-Err-clause-fault
+returns-in-Err-clause-fault g c = no_breach_told 6 None (omega arith) (omega arith)

@@ -6,7 +6,8 @@ use Rattle.hpx_top.specs.declared.session.SessionFault.{SessionFault}
 use Rattle.hpx_top.specs.declared.session.SessionFault.TheVariants.{Read, InputFull}
 use Rattle.hpx_top.specs.Computed.{IsAnswered, IsUnanswered}
 use Rattle.hpx_top.proofs.FeedLemmas.{same_rules}
-use Rattle.hpx_top.proofs.RunLemmas.{cause_none, cause_of, ended_of, lawful_of, status_is}
+use Rattle.hpx_top.proofs.RunLemmas.{cause_none, cause_of, ended_of, lawful_of, shown_in, status_is}
+use Rattle.hpx_top.proofs.Carried.{carrying_start}
 use Rattle.hpx_top.proofs.compute.compute_all.Goals as goal
 
 pub returns-in-Err-clause-cause : goal.returns-in-Err-clause-cause
@@ -24,19 +25,26 @@ returns-clause-cause g c = let a = c.answer-answered.ensures in
     (λ e. absurd (never InputFull c.answer-answered.result _ _ _ _ _ (λ x. x) a.unanswered e)) (λ x. refl) a.write_only a.fabric_only (omega arith)
 
 pub returns-clause-status : goal.returns-clause-status
-returns-clause-status g c = status_is c.answer-answered.result c.answer-answered.ensures.no_frame c.answer-answered.ensures.no_parcel
+returns-clause-status g c = λ flight trace.
+    status_is c.answer-answered.result (c.answer-answered.ensures.told (carrying_start _ _ _ _ _ c.in-Ok.ensures.hand flight trace c.in-Ok.ensures.empty))
+
+pub returns-clause-shown : goal.returns-clause-shown
+returns-clause-shown g c = shown_in c.answer-answered.result c.answer-answered.new.world c.answer-answered.ensures.shown
+
+pub returns-clause-carrying : goal.returns-clause-carrying
+returns-clause-carrying g c = λ flight trace.
+    c.answer-answered.ensures.carrying (carrying_start _ _ _ _ _ c.in-Ok.ensures.hand flight trace c.in-Ok.ensures.empty)
 
 pub returns-clause-places : goal.returns-clause-places
 returns-clause-places g c = (c.answer-answered.ensures.count ∙ c.in-Ok.ensures.count, c.answer-answered.ensures.profile ∙ c.in-Ok.ensures.profile)
 
 pub returns-clause-lawful : goal.returns-clause-lawful
 returns-clause-lawful g c =
-    lawful_of c.answer-answered.new.world _ _ c.law.ensures.within c.law.ensures.promises c.law.ensures.audit
-    c.law.ensures.stand c.answer-answered.ensures.carrying
+    lawful_of c.answer-answered.new.world c.law.ensures.within c.law.ensures.stands c.law.ensures.promises c.law.ensures.audit c.law.ensures.stand
 
 pub returns-clause-ended : goal.returns-clause-ended
 returns-clause-ended g c =
-    ended_of c.answer-answered.result c.answer-answered.new.world (c.law.ensures.promises c.answer-answered.ensures.carrying.carried) c.answer-answered.ensures.rest
+    ended_of c.answer-answered.result c.answer-answered.new.world c.law.ensures.promises c.answer-answered.ensures.rest
 
 -- the world that was booted is judged by the same rules
 pub returns-clause-answered : goal.returns-clause-answered

@@ -2,9 +2,9 @@ use Rattle.std.proofs.Common.{◌≡◌, ◌≤◌, ◌∙◌, ◌∷◌, length
 use Rattle.app_load.specs.Load.{session_lines}
 use Rattle.hpx_top.specs.declared.session.SessionFault.TheVariants.{Fabric}
 use Rattle.hpx_top.specs.Session.{rules, Feeds}
-use Rattle.hpx_top.proofs.FeedLemmas.{room_none, same_rules}
+use Rattle.hpx_top.proofs.FeedLemmas.{memory_calm, memory_shown, room_none, same_rules}
 use Rattle.hpx_top.proofs.LoadLemmas.{first_fed, first_fed_more, loading_few, loading_more, loading_short, loading_start, next_is}
-use Rattle.hpx_top.proofs.ShowLemmas.{handed_on, no_err}
+use Rattle.hpx_top.proofs.ShowLemmas.{handed_on, if_err_from, no_err}
 use Rattle.hpx_journal.specs.Weights.{HasRoom}
 use Rattle.hpx_top.proofs.load.load_lines.Goals as goal
 
@@ -12,8 +12,8 @@ pub lines-init : goal.lines-init
 lines-init g c = record {
   loading = loading_start (rules c.args.world.now) c.args.load _ c.args.world.now.journal.entries c.new-session.result c.requires.empty
       (c.new-session.ensures ∙ ap (λ n. session_lines c.args.load.start c.args.load.lines n) (sym c.requires.places)) refl refl refl;
-  rest = record { quiet = c.requires.quiet; rest = c.law.ensures.rest c.requires.carrying.carried c.requires.quiet };
-  carrying = c.requires.carrying;
+  rest = record { quiet = c.requires.quiet; rest = record { rest = λ carried. c.law.ensures.rest carried c.requires.quiet } };
+  carrying = λ carries. carries;
   count = refl;
   profile = refl;
   room = subst HasRoom (sym c.requires.empty) room_none;
@@ -65,7 +65,7 @@ lines-preserved g c =
           (same_rules c.args.world.now c.lines.world inv.count inv.profile) done.fed)
           done.counted done.bounded;
       rest = done.rest;
-      carrying = done.carrying;
+      carrying = λ carries. done.carrying (inv.carrying carries);
       count = done.count ∙ inv.count;
       profile = done.profile ∙ inv.profile;
       room = done.room (no_err _ _);
@@ -74,3 +74,23 @@ lines-preserved g c =
 
 pub returns-clause-fed : goal.returns-clause-fed
 returns-clause-fed g c = first_fed (rules c.args.world.now) c.args.load c.lines.session c.lines.world.journal.entries c.lines.tally c.lines.invariant.loading
+
+pub returns-in_err-line-clause-shown : goal.returns-in_err-line-clause-shown
+returns-in_err-line-clause-shown g c =
+    if_err_from c.from_residual.result c.in_err-line.field-0.0 _ c.from_residual.ensures.1 (memory_shown c.in_err-line.field-0.0 c.lines.world c.in_err-line.ensures.cause)
+
+pub returns-in_err-line-clause-told : goal.returns-in_err-line-clause-told
+returns-in_err-line-clause-told g c = λ carries.
+    if_err_from c.from_residual.result c.in_err-line.field-0.0 _ c.from_residual.ensures.1 (memory_calm c.in_err-line.field-0.0 c.in_err-line.ensures.cause)
+
+pub returns-in_err-load_line-clause-shown : goal.returns-in_err-load_line-clause-shown
+returns-in_err-load_line-clause-shown g c =
+    if_err_from c.from_residual-in_err-load_line.result c.in_err-load_line.field-0.0 _ c.from_residual-in_err-load_line.ensures.1 c.in_err-load_line.ensures.shown
+
+pub returns-in_err-load_line-clause-told : goal.returns-in_err-load_line-clause-told
+returns-in_err-load_line-clause-told g c = λ carries.
+    if_err_from c.from_residual-in_err-load_line.result c.in_err-load_line.field-0.0 _ c.from_residual-in_err-load_line.ensures.1
+    (c.in_err-load_line.ensures.told (c.lines.invariant.carrying carries))
+
+pub returns-in_err-load_line-clause-carrying : goal.returns-in_err-load_line-clause-carrying
+returns-in_err-load_line-clause-carrying g c = λ carries. c.load_line.ensures.carrying (c.lines.invariant.carrying carries)

@@ -15,7 +15,7 @@ returns c =
     let f : FitsSigned w128 c.args.tally.sum = search rules in
     let live : c.len-live.result ≡ length lines = c.len-live.ensures ∙ ap length c.in_ok-audit.ensures.lines in
     IfOk-weaker c.summary.result _ _
-    (λ text is. summed_is (Session.rules w) c.args.load w.journal.entries c.args.tally lines text.items c.requires.loaded (c.law.ensures.audit c.requires.carried) c.law.ensures.ordered
+    (λ text is. summed_is (Session.rules w) c.args.load w.journal.entries c.args.tally lines text.items c.requires.loaded c.law.ensures.audit c.law.ensures.ordered
     (is ∙ (ap (λ k. summary_of c.args.load.lines c.args.tally.errors k (to_z w128 (of_z w128 c.args.tally.sum))) live
     ∙ ap (λ z. summary_of c.args.load.lines c.args.tally.errors (length lines) z) (to_z-of_z f))))
     c.summary.ensures

@@ -1,8 +1,9 @@
-use Rattle.std.proofs.Common.{Some, ◌≡◌, refl, sym, ap, subst, inr, ◌∙◌}
+use Rattle.std.proofs.Common.{Some, None, ◌≡◌, arith, refl, sym, ap, subst, inr, ◌∙◌}
 use Rattle.hpx_options.specs.Texts.{bad_word_text}
 use Rattle.hpx_top.specs.declared.task.Request.TheVariants.{Print, Run}
+use Rattle.hpx_top.specs.Breaches.{TellsBreach}
 use Rattle.hpx_top.specs.Statuses.{IsStatus, status_after}
-use Rattle.hpx_top.proofs.DoneLemmas.{cause_as, cause_unrun, ends_well, not_one, run_as, says_as, says_nothing, told_as}
+use Rattle.hpx_top.proofs.DoneLemmas.{breach_by, cause_as, cause_unrun, ends_well, no_breach_told, not_one, run_as, says_as, says_nothing, told_as}
 use Rattle.hpx_top.proofs.RunLemmas.{ended_well}
 use Rattle.hpx_top.proofs.TaskLemmas.{bad_words, no_notice, none_asked, notice_asked, one_request, request_asked}
 use Rattle.hpx_top.proofs.run.run.Goals as goal
@@ -92,7 +93,7 @@ returns-clause-no_other g c =
       | in-Ok-ended w ↦ ap status_after w.in-Ok-ended.is ∙ sym w.status-is
       | in-Err-ended w ↦ ap status_after w.in-Err-ended.is ∙ (sym w.line_of-status.ensures.status ∙ sym w.status-is)
     ] in
-    subst IsStatus is c.fulfil-world.ensures.status
+    λ flight trace. subst IsStatus is (c.fulfil-world.ensures.status flight trace)
 
 pub returns-clause-ends_well : goal.returns-clause-ends_well
 returns-clause-ends_well g c =
@@ -100,7 +101,8 @@ returns-clause-ends_well g c =
       | in-Ok-ended w ↦ ap status_after w.in-Ok-ended.is ∙ sym w.status-is
       | in-Err-ended w ↦ ap status_after w.in-Err-ended.is ∙ (sym w.line_of-status.ensures.status ∙ sym w.status-is)
     ] in
-    λ good calm. rw (sym is) (ends_well c.fulfil-world.result.1 c.fulfil-world.result.0 _ _ c.fulfil-world.ensures.there c.fulfil-world.ensures.cause c.fulfil-world.ensures.status calm)
+    λ flight trace good calm.
+    rw (sym is) (ends_well c.fulfil-world.result.1 c.fulfil-world.result.0 _ _ c.fulfil-world.ensures.there c.fulfil-world.ensures.cause (c.fulfil-world.ensures.status flight trace) calm)
 
 pub returns-clause-ended : goal.returns-clause-ended
 returns-clause-ended g c =
@@ -109,3 +111,16 @@ returns-clause-ended g c =
       | in-Err-ended w ↦ ap status_after w.in-Err-ended.is ∙ (sym w.line_of-status.ensures.status ∙ sym w.status-is)
     ] in
     λ s. ended_well c.fulfil-world.result.1 _ (is ∙ s) c.fulfil-world.ensures.ended
+
+pub returns-in-Err-clause-fault : goal.returns-in-Err-clause-fault
+returns-in-Err-clause-fault g c = no_breach_told 1 None (omega arith) (omega arith)
+
+pub returns-clause-fault : goal.returns-clause-fault
+returns-clause-fault g c =
+    let is : status_after c.fulfil-world.result.1 ≡ c.match-ended.status = elim c.match-ended.branch [
+      | in-Ok-ended w ↦ ap status_after w.in-Ok-ended.is ∙ sym w.status-is
+      | in-Err-ended w ↦ ap status_after w.in-Err-ended.is ∙ (sym w.line_of-status.ensures.status ∙ sym w.status-is)
+    ] in
+    subst (λ s. TellsBreach s c.breach_after-fault.result c.fulfil-world.result.0) is
+    (subst (λ b. TellsBreach (status_after c.fulfil-world.result.1) b c.fulfil-world.result.0) (sym c.breach_after-fault.ensures)
+    (breach_by c.fulfil-world.result.1 c.fulfil-world.result.0 c.fulfil-world.ensures.shown))

@@ -1,5 +1,6 @@
 use Rattle.std.proofs.Common.{refl, ◌∙◌}
-use Rattle.hpx_top.proofs.RunLemmas.{cause_none, ended_of, lawful_of, served_none}
+use Rattle.hpx_top.proofs.RunLemmas.{cause_none, ended_of, lawful_of, served_none, shown_in}
+use Rattle.hpx_top.proofs.Carried.{carrying_start}
 use Rattle.hpx_top.proofs.run.serve_all.Goals as goal
 
 pub returns-in-Err-clause-served : goal.returns-in-Err-clause-served
@@ -18,8 +19,19 @@ returns-clause-places g c = (c.serve-cuts.ensures.count ∙ c.in-Ok.ensures.coun
 
 pub returns-clause-lawful : goal.returns-clause-lawful
 returns-clause-lawful g c =
-    lawful_of c.serve-cuts.new.world _ _ c.law.ensures.within c.law.ensures.promises c.law.ensures.audit c.law.ensures.stand c.serve-cuts.ensures.carrying
+    lawful_of c.serve-cuts.new.world c.law.ensures.within c.law.ensures.stands c.law.ensures.promises c.law.ensures.audit c.law.ensures.stand
+
+pub returns-clause-carrying : goal.returns-clause-carrying
+returns-clause-carrying g c = λ flight trace.
+    c.serve-cuts.ensures.carrying (carrying_start _ _ _ _ _ c.in-Ok.ensures.hand flight trace c.in-Ok.ensures.empty)
+
+pub returns-clause-status : goal.returns-clause-status
+returns-clause-status g c = λ flight trace.
+    c.serve-cuts.ensures.status (carrying_start _ _ _ _ _ c.in-Ok.ensures.hand flight trace c.in-Ok.ensures.empty)
+
+pub returns-clause-shown : goal.returns-clause-shown
+returns-clause-shown g c = shown_in c.serve-cuts.result.1 c.serve-cuts.new.world c.serve-cuts.ensures.shown
 
 pub returns-clause-ended : goal.returns-clause-ended
 returns-clause-ended g c =
-    ended_of c.serve-cuts.result.1 c.serve-cuts.new.world (c.law.ensures.promises c.serve-cuts.ensures.carrying.carried) c.serve-cuts.ensures.rest
+    ended_of c.serve-cuts.result.1 c.serve-cuts.new.world c.law.ensures.promises c.serve-cuts.ensures.rest

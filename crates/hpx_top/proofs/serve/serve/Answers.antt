@@ -13,4 +13,4 @@ returns-clause-cause g c = let s = c.serve_lines-served.ensures in
     cause_of c.serve_lines-served.result (Some c.serve_lines-served.new.world) _ _ s.read s.write s.fabric s.full s.room s.taken s.read_only s.write_only s.fabric_only s.limit
 
 pub returns-clause-status : goal.returns-clause-status
-returns-clause-status g c = status_is c.serve_lines-served.result c.serve_lines-served.ensures.no_frame c.serve_lines-served.ensures.no_parcel
+returns-clause-status g c = λ carries. status_is c.serve_lines-served.result (c.serve_lines-served.ensures.told carries)

@@ -1,10 +1,11 @@
-use Rattle.std.proofs.Common.{Err, ap, ◌∙◌, subst}
+use Rattle.std.proofs.Common.{Err, ap, ◌∙◌, subst, ◌⊎◌, inl, inr}
 use Rattle.hpx_top.specs.Reader.{lines_left}
 use Rattle.hpx_top.specs.declared.session.SessionFault.TheVariants.{Fabric, JournalFull, OutOfMemory, Write}
+use Rattle.hpx_top.specs.Breaches.{IsShown, NoBreach}
 use Rattle.hpx_top.specs.Session.{rules, IsLineEndedBy}
 use Rattle.hpx_top.proofs.ShowLemmas.{if_err_from, err_of, handed_on}
 use Rattle.hpx_top.proofs.SessionLemmas.{served_more, serving_more, cut_here, cut_line, next_line, next_long, over_end, over_quit, under_prompt, stopped_full, stopped_read}
-use Rattle.hpx_top.proofs.FeedLemmas.{cut_long, cut_text, cut_write}
+use Rattle.hpx_top.proofs.FeedLemmas.{cut_long, cut_text, cut_write, memory_calm, memory_shown, write_calm, write_shown}
 use Rattle.hpx_top.proofs.serve.serve_line.Goals as goal
 
 pub returns-in_err-write-clause-err : goal.returns-in_err-write-clause-err
@@ -153,3 +154,36 @@ returns-in_err-serve_text-in-Ok-Line-clause-write_only g c = λ other.
 pub returns-in_err-serve_text-in-Ok-Line-clause-fabric_only : goal.returns-in_err-serve_text-in-Ok-Line-clause-fabric_only
 returns-in_err-serve_text-in-Ok-Line-clause-fabric_only g c = λ other.
     c.in_err-serve_text-in-Ok-Line.ensures.fabric_only (λ e. other (handed_on c.from_residual-in_err-serve_text-in-Ok-Line.result c.in_err-serve_text-in-Ok-Line.field-0.0 Fabric c.from_residual-in_err-serve_text-in-Ok-Line.ensures.1 e))
+
+pub returns-in_err-write-clause-shown : goal.returns-in_err-write-clause-shown
+returns-in_err-write-clause-shown g c =
+    if_err_from c.from_residual.result c.in_err-write.field-0.0 _ c.from_residual.ensures.1
+    (write_shown c.in_err-write.field-0.0 c.args.world.now c.in_err-write.ensures.cause.0)
+
+pub returns-in_err-write-clause-told : goal.returns-in_err-write-clause-told
+returns-in_err-write-clause-told g c = λ carries.
+    if_err_from c.from_residual.result c.in_err-write.field-0.0 _ c.from_residual.ensures.1 (write_calm c.in_err-write.field-0.0 c.in_err-write.ensures.cause.0)
+
+pub returns-in_err-serve_text-in-Ok-Line-clause-shown : goal.returns-in_err-serve_text-in-Ok-Line-clause-shown
+returns-in_err-serve_text-in-Ok-Line-clause-shown g c =
+    if_err_from c.from_residual-in_err-serve_text-in-Ok-Line.result c.in_err-serve_text-in-Ok-Line.field-0.0 _ c.from_residual-in_err-serve_text-in-Ok-Line.ensures.1 c.in_err-serve_text-in-Ok-Line.ensures.shown
+
+pub returns-in_err-serve_text-in-Ok-Line-clause-told : goal.returns-in_err-serve_text-in-Ok-Line-clause-told
+returns-in_err-serve_text-in-Ok-Line-clause-told g c = λ carries.
+    if_err_from c.from_residual-in_err-serve_text-in-Ok-Line.result c.in_err-serve_text-in-Ok-Line.field-0.0 _ c.from_residual-in_err-serve_text-in-Ok-Line.ensures.1 (c.in_err-serve_text-in-Ok-Line.ensures.told carries)
+
+pub returns-in_err-serve_long-in-Ok-Long-clause-shown : goal.returns-in_err-serve_long-in-Ok-Long-clause-shown
+returns-in_err-serve_long-in-Ok-Long-clause-shown g c =
+    if_err_from c.from_residual-in_err-serve_long-in-Ok-Long.result c.in_err-serve_long-in-Ok-Long.field-0.0 _ c.from_residual-in_err-serve_long-in-Ok-Long.ensures.1
+    (elim c.in_err-serve_long-in-Ok-Long.ensures.cause as (λ _. IsShown c.in_err-serve_long-in-Ok-Long.field-0.0 c.args.world.now) [
+      | inl h ↦ memory_shown c.in_err-serve_long-in-Ok-Long.field-0.0 c.args.world.now h
+      | inr h ↦ write_shown c.in_err-serve_long-in-Ok-Long.field-0.0 c.args.world.now h.0
+    ])
+
+pub returns-in_err-serve_long-in-Ok-Long-clause-told : goal.returns-in_err-serve_long-in-Ok-Long-clause-told
+returns-in_err-serve_long-in-Ok-Long-clause-told g c = λ carries.
+    if_err_from c.from_residual-in_err-serve_long-in-Ok-Long.result c.in_err-serve_long-in-Ok-Long.field-0.0 _ c.from_residual-in_err-serve_long-in-Ok-Long.ensures.1
+    (elim c.in_err-serve_long-in-Ok-Long.ensures.cause as (λ _. NoBreach c.in_err-serve_long-in-Ok-Long.field-0.0) [
+      | inl h ↦ memory_calm c.in_err-serve_long-in-Ok-Long.field-0.0 h
+      | inr h ↦ write_calm c.in_err-serve_long-in-Ok-Long.field-0.0 h.0
+    ])

@@ -2,13 +2,13 @@ use Rattle.std.specs.Prelude.{Result, ◌-◌, ◌⊎◌}
 use Rattle.std.specs.Result.{IsErrAnd}
 use Rattle.std.proofs.Common.{ℕ, List, Option, ◌≡◌, length, Ok, Err, refl, sym, ap, ◌∙◌, arith, subst, inl, inr}
 use Rattle.hpx_top.specs.declared.session.SessionFault.{SessionFault}
-use Rattle.hpx_top.specs.declared.session.SessionFault.TheVariants.{Read, OutOfMemory, InputFull}
+use Rattle.hpx_top.specs.declared.session.SessionFault.TheVariants.{Read, Write, Fabric, JournalFull, OutOfMemory, InputFull}
 use Rattle.hpx_ports.specs.Told.{followed}
 use Rattle.hpx_journal.specs.Weights.{HasRoom}
 use Rattle.hpx_top.specs.Session.{rules, ByJournal, WritesFront}
-use Rattle.hpx_top.proofs.ShowLemmas.{any_ok, if_err_from, err_of, no_err}
+use Rattle.hpx_top.proofs.ShowLemmas.{any_ok, handed_on, if_err_from, err_of, no_err}
 use Rattle.hpx_top.proofs.SessionLemmas.{serving_open, under_start}
-use Rattle.hpx_top.proofs.FeedLemmas.{same_rules, cut_write, cut_opening, on_ok, passive_runs, room_none}
+use Rattle.hpx_top.proofs.FeedLemmas.{same_rules, write_calm, write_shown, cut_write, cut_opening, on_ok, passive_runs, room_none}
 use Rattle.hpx_top.proofs.EndLemmas.{all_lines, whole_from, begun_result, ended_result, short_result, read_up_from, read_on_from, read_from, read_from_none, ended_from, begun_from, ended_opening, begun_opening, read_none, behind_start, behind_more, short_from, short_opening}
 use Rattle.hpx_top.proofs.serve.serve_lines.Goals as goal
 
@@ -112,7 +112,7 @@ loop-reader-preserved g c =
       rest = c.in_ok-serve_line.ensures.rest;
       jobs = c.in_ok-serve_line.ensures.jobs;
       profile = c.serve_line.ensures.profile ∙ c.loop-reader.invariant.profile;
-      carrying = c.serve_line.ensures.carrying;
+      carrying = λ carries. c.serve_line.ensures.carrying (c.loop-reader.invariant.carrying carries);
       count = c.serve_line.ensures.count ∙ c.loop-reader.invariant.count;
       source_stands = c.in_ok-serve_line.ensures.read_only (no_err _ _) ∙ c.loop-reader.invariant.source_stands;
       sink_stands = c.in_ok-serve_line.ensures.write_only (no_err _ _) ∙ c.loop-reader.invariant.sink_stands;
@@ -227,3 +227,61 @@ returns-clause-short g c =
     let serving = rw (← same_rules c.args.world.now c.loop-reader.world c.loop-reader.invariant.count c.loop-reader.invariant.profile) at c.loop-reader.invariant.handling.serving in
     let over = rw (same_rules c.args.world.now c.loop-reader.world c.loop-reader.invariant.count c.loop-reader.invariant.profile) at (c.in_ok-serve_line.ensures.over (ap (λ b. Ok b) c.if-branch.false) _ _ serving) in
     λ input h e. short_result c.let_go.result input (g.S.Source.left c.args.source.now) _ _ _ h over c.let_go.ensures.unfed c.let_go.ensures.still c.let_go.ensures.err e
+
+pub returns-in_err-write-clause-shown : goal.returns-in_err-write-clause-shown
+returns-in_err-write-clause-shown g c =
+    if_err_from c.from_residual.result c.in_err-write.field-0.0 _ c.from_residual.ensures.1
+    (write_shown c.in_err-write.field-0.0 c.args.world.now c.in_err-write.ensures.cause.0)
+
+pub returns-in_err-write-clause-told : goal.returns-in_err-write-clause-told
+returns-in_err-write-clause-told g c = λ carries.
+    if_err_from c.from_residual.result c.in_err-write.field-0.0 _ c.from_residual.ensures.1 (write_calm c.in_err-write.field-0.0 c.in_err-write.ensures.cause.0)
+
+pub returns-in_err-open-clause-shown : goal.returns-in_err-open-clause-shown
+returns-in_err-open-clause-shown g c =
+    if_err_from c.from_residual-in_err-open.result c.in_err-open.field-0.0 _ c.from_residual-in_err-open.ensures.1 c.in_err-open.ensures.shown
+
+pub returns-in_err-open-clause-told : goal.returns-in_err-open-clause-told
+returns-in_err-open-clause-told g c = λ carries.
+    if_err_from c.from_residual-in_err-open.result c.in_err-open.field-0.0 _ c.from_residual-in_err-open.ensures.1 (c.in_err-open.ensures.told carries)
+
+pub returns-in_err-serve_line-clause-shown : goal.returns-in_err-serve_line-clause-shown
+returns-in_err-serve_line-clause-shown g c =
+    if_err_from c.from_residual-in_err-serve_line.result c.in_err-serve_line.field-0.0 _ c.from_residual-in_err-serve_line.ensures.1 c.in_err-serve_line.ensures.shown
+
+pub returns-in_err-serve_line-clause-told : goal.returns-in_err-serve_line-clause-told
+returns-in_err-serve_line-clause-told g c = λ carries.
+    if_err_from c.from_residual-in_err-serve_line.result c.in_err-serve_line.field-0.0 _ c.from_residual-in_err-serve_line.ensures.1
+    (c.in_err-serve_line.ensures.told (c.loop-reader.invariant.carrying carries))
+
+pub returns-in_err-serve_line-clause-carrying : goal.returns-in_err-serve_line-clause-carrying
+returns-in_err-serve_line-clause-carrying g c = λ carries. c.serve_line.ensures.carrying (c.loop-reader.invariant.carrying carries)
+
+pub returns-clause-told : goal.returns-clause-told
+returns-clause-told g c = λ carries. c.let_go.ensures.told (c.serve_line.ensures.carrying (c.loop-reader.invariant.carrying carries))
+
+pub returns-clause-carrying : goal.returns-clause-carrying
+returns-clause-carrying g c = λ carries. c.let_go.ensures.carrying (c.serve_line.ensures.carrying (c.loop-reader.invariant.carrying carries))
+
+pub returns-in_err-serve_line-clause-room : goal.returns-in_err-serve_line-clause-room
+returns-in_err-serve_line-clause-room g c = λ other.
+    c.in_err-serve_line.ensures.room c.loop-reader.invariant.room
+    (λ e. other (handed_on c.from_residual-in_err-serve_line.result c.in_err-serve_line.field-0.0 JournalFull c.from_residual-in_err-serve_line.ensures.1 e))
+
+pub returns-in_err-serve_line-clause-read_only : goal.returns-in_err-serve_line-clause-read_only
+returns-in_err-serve_line-clause-read_only g c = λ other.
+    c.in_err-serve_line.ensures.read_only
+    (λ e. other (handed_on c.from_residual-in_err-serve_line.result c.in_err-serve_line.field-0.0 Read c.from_residual-in_err-serve_line.ensures.1 e))
+    ∙ c.loop-reader.invariant.source_stands
+
+pub returns-in_err-serve_line-clause-write_only : goal.returns-in_err-serve_line-clause-write_only
+returns-in_err-serve_line-clause-write_only g c = λ other.
+    c.in_err-serve_line.ensures.write_only
+    (λ e. other (handed_on c.from_residual-in_err-serve_line.result c.in_err-serve_line.field-0.0 Write c.from_residual-in_err-serve_line.ensures.1 e))
+    ∙ c.loop-reader.invariant.sink_stands
+
+pub returns-in_err-serve_line-clause-fabric_only : goal.returns-in_err-serve_line-clause-fabric_only
+returns-in_err-serve_line-clause-fabric_only g c = λ other.
+    c.in_err-serve_line.ensures.fabric_only
+    (λ e. other (handed_on c.from_residual-in_err-serve_line.result c.in_err-serve_line.field-0.0 Fabric c.from_residual-in_err-serve_line.ensures.1 e))
+    ∙ c.loop-reader.invariant.fabric_stands

@@ -1,9 +1,8 @@
 use Rattle.std.proofs.Common.{◌≡◌, ◌+◌, ◌≤◌, [], false, length}
 use Rattle.hpx_journal.specs.Weights.{HasRoom}
-use Rattle.hpx_world.specs.Away.{IsCarrying}
 use Rattle.hpx_world.specs.Quiet.{NoneRuns}
 use Rattle.hpx_top.specs.Reader.{HasRead, bytes_left, lines_left}
-use Rattle.hpx_top.specs.Session.{rules, IsRested, IsHandling}
+use Rattle.hpx_top.specs.Session.{rules, Carries, IsRested, IsHandling}
 use Rattle.hpx_top.proofs.serve.serve_lines.Given as goal
 
 abbrev pub invariant-loop-reader : goal.invariant-loop-reader
@@ -18,7 +17,7 @@ invariant-loop-reader g l =
       rest : l.progress.held ≡ false → IsRested l.world;
       jobs : NoneRuns l.world.nodes;
       profile : l.world.profile ≡ l.fn.world.profile;
-      carrying : IsCarrying (rules l.world) l.world.hand (g.F.Fabric.flight l.fabric) (g.F.Fabric.trace l.fabric) l.world.journal.entries;
+      carrying : Carries l.fn.world (g.F.Fabric.flight l.fn.fabric) (g.F.Fabric.trace l.fn.fabric) → Carries l.world (g.F.Fabric.flight l.fabric) (g.F.Fabric.trace l.fabric);
       count : length l.world.nodes ≡ length l.fn.world.nodes;
       source_stands : g.S.Source.faults l.source ≡ g.S.Source.faults l.fn.source;
       sink_stands : g.K.Sink.faults l.sink ≡ g.K.Sink.faults l.fn.sink;

@@ -1,5 +1,5 @@
 use Rattle.std.specs.List.{concat}
-use Rattle.std.proofs.Common.{false, [], ◌∷◌, ◌++◌, ◌≡◌, ◌∙◌, length, drop, sym, ap, subst}
+use Rattle.std.proofs.Common.{false, [], refl, ◌∷◌, ◌++◌, ◌≡◌, ◌∙◌, length, drop, sym, ap, subst}
 use Rattle.hpx_journal.specs.Pool.{prints_of}
 use Rattle.hpx_journal.specs.Weights.{Book}
 use Rattle.hpx_ports.specs.Told.{followed}
@@ -8,7 +8,7 @@ use Rattle.hpx_top.specs.Owned.{own_text}
 use Rattle.hpx_top.specs.Parts.{IsOwn}
 use Rattle.hpx_top.specs.Session.{rules, WritesFront}
 use Rattle.hpx_top.specs.Texts.{Typed, held_by, owns}
-use Rattle.hpx_top.proofs.FeedLemmas.{how_is, same_rules}
+use Rattle.hpx_top.proofs.FeedLemmas.{how_is, line_left, same_rules, turn_shown, written_calm, written_shown}
 use Rattle.hpx_top.proofs.ShowLemmas.{if_err_from}
 use Rattle.hpx_top.proofs.TypedLemmas.{IsHandledBy, handled_by, served_ok, served_own, served_shown}
 use Rattle.hpx_top.proofs.serve.serve_text.Goals as goal
@@ -85,3 +85,25 @@ returns-clause-err g c =
     let shown : g.K.Sink.held c.show.new.sink ≡ followed (g.K.Sink.held c.args.sink.now) (concat (prints_of (drop (length w.journal.entries) v.journal.entries))) =
     rw (← from, ← journal) c.in_ok-show.ensures.held in
     served_own text c.write_own.result _ _ _ _ by shown (rw (← c.journal-4.ensures.journal) c.write_own.ensures.front) c.write_own.ensures.cause
+
+pub returns-in_err-handle-clause-err : goal.returns-in_err-handle-clause-err
+returns-in_err-handle-clause-err g c =
+    if_err_from c.from_residual-in_err-handle.result c.in_err-handle.field-0.0 _ c.from_residual-in_err-handle.ensures.1
+    (line_left (rules c.args.world.now) c.args.progress.now.held c.reserve.new.self.held c.in_err-handle.field-0.0 c.args.world.now.journal.entries
+    c.handle.new.world.journal.entries (g.K.Sink.held c.args.sink.now) (g.K.Sink.held c.args.sink.now) c.handle.new.world c.in_err-handle.ensures.cause
+    (record { begun = c.handle.ensures.once; cut = c.reserve.ensures.cuts; written = refl }))
+
+pub returns-in_err-handle-clause-shown : goal.returns-in_err-handle-clause-shown
+returns-in_err-handle-clause-shown g c =
+    if_err_from c.from_residual-in_err-handle.result c.in_err-handle.field-0.0 _ c.from_residual-in_err-handle.ensures.1
+    (turn_shown c.in_err-handle.field-0.0 c.handle.new.world c.in_err-handle.ensures.cause)
+
+pub returns-in_err-handle-clause-told : goal.returns-in_err-handle-clause-told
+returns-in_err-handle-clause-told g c = λ carries.
+    if_err_from c.from_residual-in_err-handle.result c.in_err-handle.field-0.0 _ c.from_residual-in_err-handle.ensures.1 (c.in_err-handle.ensures.told carries)
+
+pub returns-clause-shown : goal.returns-clause-shown
+returns-clause-shown g c = written_shown c.write_own.result c.handle.new.world _ c.write_own.ensures.cause
+
+pub returns-clause-told : goal.returns-clause-told
+returns-clause-told g c = λ carries. written_calm c.write_own.result _ c.write_own.ensures.cause

@@ -1,20 +1,13 @@
-use Rattle.std.proofs.Common.{sym, subst}
-use Rattle.hpx_member.specs.Words.{IsHeeded}
 use Rattle.hpx_member.proofs.Heeded.{heeded_all, heeded_pumped, heeds_stop}
 use Rattle.hpx_member.proofs.worker.WorkerSeat.step.Goals as goal
 
 pub returns-in-Err-clause-stopped : goal.returns-in-Err-clause-stopped
 returns-in-Err-clause-stopped g c =
     heeds_stop _ _ c.in-Err.ensures.other
-    (heeded_all c.args.self.now.waiting.items _ (heeded_pumped _ _ _ c.pump.ensures.sends
-    (subst (λ l. IsHeeded c.args.self.now.waiting.items (g.L.Link.trace l)) (sym c.act.ensures.link) c.requires.heeded)))
+    (heeded_all c.args.self.now.waiting.items _ (heeded_pumped _ _ _ c.go.ensures.sends c.requires.heeded))
 
 pub returns-in-Ok-true-clause-heeded : goal.returns-in-Ok-true-clause-heeded
-returns-in-Ok-true-clause-heeded g c = λ same.
-    heeded_pumped _ _ _ c.pump.ensures.sends
-    (subst (λ l. IsHeeded c.args.self.now.waiting.items (g.L.Link.trace l)) (sym c.act.ensures.link) c.requires.heeded)
+returns-in-Ok-true-clause-heeded g c = λ same. heeded_pumped _ _ _ c.go.ensures.sends c.requires.heeded
 
 pub answer-requires-clause-heeded : goal.answer-requires-clause-heeded
-answer-requires-clause-heeded g c =
-    heeded_pumped _ _ _ c.pump.ensures.sends
-    (subst (λ l. IsHeeded c.args.self.now.waiting.items (g.L.Link.trace l)) (sym c.act.ensures.link) c.requires.heeded)
+answer-requires-clause-heeded g c = heeded_pumped _ _ _ c.go.ensures.sends c.requires.heeded

@@ -5,13 +5,13 @@ use Rattle.hpx_node.proofs.node.Node.boot.Goals as goal
 
 pub returns-clause-stands : goal.returns-clause-stands
 returns-clause-stands g c =
-    sound_at_rest _ (rules_of g.A.Acts.act_of c.localities-localities.result c.args.profile) [] (record { localities = refl; credit_log = refl; credit_limit = refl }) (boot_at_rest _ _ c.new-6.ensures.came c.new-5.ensures.items c.new-4.ensures.items c.new-7.ensures.waiting c.new-6.ensures.stray (record {
+    sound_at_rest _ (rules_of g.A.Acts.act_of c.localities-localities.result c.args.profile) [] (record { localities = refl; credit_log = refl; credit_limit = refl }) (boot_at_rest _ _ c.new-6.ensures.came c.new-5.ensures c.new-4.ensures c.new-7.ensures.waiting c.new-6.ensures.stray (record {
       keeps = rw (
-        c.new.ensures.items,
+        c.new.ensures,
         c.new-2.ensures.items,
         c.new-3.ensures.items,
-        c.new-4.ensures.items,
-        c.new-5.ensures.items,
+        c.new-4.ensures,
+        c.new-5.ensures,
         c.new-6.ensures.leaving,
         c.new-6.ensures.stray,
         c.new-7.ensures.waiting,
@@ -20,7 +20,21 @@ returns-clause-stands g c =
         c.in_ok-objects.ensures,
       )
           (boot_stands g.A.Acts.act_of c.localities-localities.result c.args.here c.args.profile);
-      tidy = search rules;
+      tidy = rw (
+        c.new.ensures,
+        c.new-2.ensures.items,
+        c.new-3.ensures.items,
+        c.new-4.ensures,
+        c.new-5.ensures,
+        c.new-6.ensures.leaving,
+        c.new-6.ensures.stray,
+        c.new-6.ensures.came,
+        c.new-7.ensures.waiting,
+        c.new-7.ensures.births,
+        c.new-7.ensures.records,
+        c.in_ok-objects.ensures,
+      )
+          (search rules);
       born = search rules;
       few = search rules;
       asked = search rules;
@@ -30,6 +44,6 @@ returns-clause-stands g c =
       few_answers = search rules;
       answered = search rules;
       moved = λ clean. tt;
-    }) (search rules) (search rules) (boot_begun _ _ c.new-7.ensures.records c.new-7.ensures.waiting c.new-6.ensures.stray c.new-5.ensures.items)
-    (boot_placed _ _ c.new-7.ensures.records c.new-4.ensures.items c.new-6.ensures.came)
-    (boot_flowing _ _ c.new-7.ensures.records c.new-4.ensures.items c.new-5.ensures.items c.new-7.ensures.waiting c.new-6.ensures.leaving c.new-6.ensures.stray c.new-6.ensures.came))
+    }) (search rules) (search rules) (boot_begun _ _ c.new-7.ensures.records c.new-7.ensures.waiting c.new-6.ensures.stray c.new-5.ensures)
+    (boot_placed _ _ c.new-7.ensures.records c.new-4.ensures c.new-6.ensures.came)
+    (boot_flowing _ _ c.new-7.ensures.records c.new-4.ensures c.new-5.ensures c.new-7.ensures.waiting c.new-6.ensures.leaving c.new-6.ensures.stray c.new-6.ensures.came))

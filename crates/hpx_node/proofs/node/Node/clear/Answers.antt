@@ -43,7 +43,7 @@ enter_mail-requires-clause-spare g c =
     let kept : 1280 ≤ c.reserve_turn.new.self.spare =
     when_ok c.reserve_turn.result (1280 ≤ c.reserve_turn.new.self.spare) (sym c.is_err.ensures.value ∙ c.if-is_err.false) c.reserve_turn.ensures.spare in
     let made = rw (← c.self-2.view_is) at kept in
-    spare_popped 1280 _ _ _ _ _ _ made c.in-Some-pop_front.ensures.capacity (omega (arith, c.in-Some-pop_front.ensures.len))
+    spare_popped 1280 _ _ _ _ made c.in-Some-pop_front.ensures.spare
 
 pub enter_mail-requires-clause-page : goal.enter_mail-requires-clause-page
 enter_mail-requires-clause-page g c =
@@ -131,5 +131,5 @@ go_on-requires-clause-spare g c =
     room_to_go g.A.Acts.act_of c.args.self.now.tables (length c.args.self.now.tables.queued) c.enter_mail.new.self c.follow.new.self c.into_parcel.result c.in-Ok.next c.landed_first-landed.result
     _ landed next
     (λ id place e. accepts_queued c.into_parcel.result _ c.enter_mail.new.self.tables c.enter_mail.ensures.accepts id place e ∙ ap (λ (t : Tables). length t.queued) same.tables)
-    (made_popped c.landed_first-landed.result (length c.args.self.now.tables.queued) c.reserve_turn.new.self.spare _ _ _ _ _ _ made (subst (λ m. c.reserve_turn.new.self.spare ≤ m) kept (omega arith)) c.in-Some-pop_front.ensures.capacity (omega (arith, c.in-Some-pop_front.ensures.len)))
+    (made_popped c.landed_first-landed.result (length c.args.self.now.tables.queued) c.reserve_turn.new.self.spare _ _ _ _ made (subst (λ m. c.reserve_turn.new.self.spare ≤ m) kept (omega arith)) c.in-Some-pop_front.ensures.spare)
     c.enter_mail.ensures.more c.follow.ensures.rests

@@ -1,0 +1,16 @@
+//! Any frames at all, fed to localities in the middle of sessions in which a number moves: each answer is the one that the
+//! rules give, and a refusal leaves everything as it was.
+#![tactic(auto)]
+
+#[cfg(test)]
+mod facts;
+#[cfg(test)]
+mod frames;
+#[cfg(test)]
+mod pair;
+#[cfg(test)]
+mod rules;
+#[cfg(test)]
+mod scenes;
+#[cfg(test)]
+mod strangers;

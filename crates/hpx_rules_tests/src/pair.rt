@@ -1,0 +1,108 @@
+//! Two localities, step by step as a script says.
+use hpx_node::parts::TakeFault;
+use hpx_stepped::pair::Pair;
+use hpx_stepped::site::{Seen, Site};
+use hpx_value::items::Bytes;
+use hpx_value::memory::OutOfMemory;
+use std::alloc::Global;
+
+/// The greatest count of a record, which no scene comes near.
+const LIMIT: u128 = 4611686018427387904;
+
+/// Runs the next job of a locality, if there is one.
+fn run(alloc: Global, site: &mut Site) -> Result<(), OutOfMemory> {
+    site.run(alloc)?;
+    Ok(())
+}
+
+/// Carries a frame from one to the other, if there is one. It has to be accepted.
+fn carry(alloc: Global, from: &mut Site, to: &mut Site) -> Result<(), OutOfMemory> {
+    match from.send(alloc)? {
+        Some(frame) => match to.take(alloc, &frame) {
+            Ok(()) => Ok(()),
+            Err(_) => Err(OutOfMemory),
+        },
+        None => Ok(()),
+    }
+}
+
+/// A locality tends to its desk once.
+fn tend(alloc: Global, site: &mut Site) -> Result<(), OutOfMemory> {
+    match site.desk(alloc) {
+        Ok(_) => Ok(()),
+        Err(_) => Err(OutOfMemory),
+    }
+}
+
+/// All is done that there is to do, if that is little.
+fn settle(alloc: Global, pair: &mut Pair) -> Result<(), OutOfMemory> {
+    for _ in 0..40 {
+        run(alloc, &mut pair.first)?;
+        run(alloc, &mut pair.second)?;
+        tend(alloc, &mut pair.first)?;
+        tend(alloc, &mut pair.second)?;
+        carry(alloc, &mut pair.first, &mut pair.second)?;
+        carry(alloc, &mut pair.second, &mut pair.first)?;
+    }
+    Ok(())
+}
+
+/// One step: `0` and `1` run a job there, `x` and `y` carry a frame to the home and back, `u` and `v` tend to a desk, `s`
+/// does all that is left to do; any other byte is a line.
+fn step(alloc: Global, pair: &mut Pair, byte: u8) -> Result<(), OutOfMemory> {
+    match byte {
+        b'0' => run(alloc, &mut pair.first),
+        b'1' => run(alloc, &mut pair.second),
+        b'x' => carry(alloc, &mut pair.first, &mut pair.second),
+        b'y' => carry(alloc, &mut pair.second, &mut pair.first),
+        b'u' => tend(alloc, &mut pair.first),
+        b'v' => tend(alloc, &mut pair.second),
+        b's' => settle(alloc, pair),
+        line => pair.first.feed(alloc, line),
+    }
+}
+
+/// Both, at boot. A new object has the credit 256.
+pub fn boot(alloc: Global) -> Result<Pair, OutOfMemory> {
+    Pair::boot(alloc, LIMIT)
+}
+
+/// Both are booted again.
+fn renew(alloc: Global, pair: &mut Pair) -> Result<(), OutOfMemory> {
+    *pair = boot(alloc)?;
+    Ok(())
+}
+
+/// Both are booted again, and make the steps of a script.
+pub fn play(alloc: Global, pair: &mut Pair, script: &[u8]) -> Result<(), OutOfMemory> {
+    renew(alloc, pair)?;
+    for i in 0..script.len() {
+        step(alloc, pair, script[i])?;
+    }
+    Ok(())
+}
+
+/// The number is asked for, and all is done that is left to do; what is seen then.
+pub fn ends(alloc: Global, pair: &mut Pair) -> Result<(Seen, Seen), OutOfMemory> {
+    pair.first.feed(alloc, b'q')?;
+    settle(alloc, pair)?;
+    Ok((pair.first.seen(), pair.second.seen()))
+}
+
+/// What is seen of one of the two.
+pub fn seen(pair: &Pair, second: bool) -> Seen {
+    if second {
+        pair.second.seen()
+    } else {
+        pair.first.seen()
+    }
+}
+
+/// One of the two takes a frame, or refuses it.
+pub fn take(alloc: Global, pair: &mut Pair, second: bool, frame: &Bytes) -> Result<(), TakeFault> {
+    if second {
+        pair.second.take(alloc, frame)
+    } else {
+        pair.first.take(alloc, frame)
+    }
+}
