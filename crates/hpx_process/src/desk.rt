@@ -84,7 +84,7 @@ impl<'s, 'k, S: Source, K: Sink> Desk<'s, 'k, S, K> {
     }
 
     /// Writes a prompt, and takes what is typed.
-    fn prompt(&mut self, alloc: Global) -> Result<Answer, LineFault>
+    fn take_line(&mut self, alloc: Global) -> Result<Answer, LineFault>
         requires sheet { self.old.sheet ≡ Sheet.Open }
         ensures source { self.new.source.ghost_name ≡ self.old.source.ghost_name }
         ensures sink { self.new.sink.ghost_name ≡ self.old.sink.ghost_name }
@@ -134,7 +134,7 @@ impl<'s, 'k, S: Source, K: Sink> Desk<'s, 'k, S, K> {
             (self.new.reader.read == 67108864)) }
     {
         loop {
-            match self.prompt(alloc)? {
+            match self.take_line(alloc)? {
                 Answer::Line(line) => return Ok(Some(line)),
                 Answer::Long => {}
                 Answer::Over => {

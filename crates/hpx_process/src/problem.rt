@@ -21,7 +21,7 @@ pub enum Problem {
 
 impl Problem {
     /// The line that asks for it.
-    fn question(self, alloc: Global) -> Result<Text, OutOfMemory>
+    fn asked(self, alloc: Global) -> Result<Text, OutOfMemory>
         ensures { IfOk result (λ line. problem_line self ≡ 99 ∷ line) }
     {
         match self {
@@ -35,7 +35,7 @@ impl Problem {
         ensures line { IfOk result (λ line. line ≡ problem_line self) }
         ensures short { IfOk result (λ line. length line ≤ 1025) }
     {
-        let question = self.question(alloc)?;
-        marked(alloc, MARK, question.as_slice())
+        let asked = self.asked(alloc)?;
+        marked(alloc, MARK, asked.as_slice())
     }
 }

@@ -3,6 +3,7 @@ ghost use Rattle.std.specs.Process.{exit_status};
 ghost use Rattle.hpx_options.specs.Texts.{bad_word_text};
 ghost use Rattle.hpx_member.specs.Leads.{IsConsolesStatus};
 ghost use Rattle.hpx_process.specs.Members.{HasJoined, left};
+ghost use Rattle.hpx_process.specs.declared.membership.Role.TheVariants.{Worker};
 ghost use Rattle.hpx_process.specs.Memberships.{IsMembership, membership_in};
 ghost use Rattle.hpx_top.specs.Breaches.{TellsBreach};
 ghost use Rattle.hpx_top.specs.Printed.{HasTold};
@@ -18,7 +19,7 @@ use hpx_ports::sink::{Sink, write_all};
 use hpx_ports::source::Source;
 use hpx_ports::words::{Words, all_words};
 use hpx_process::join::{Joined, join};
-use hpx_process::membership::{Membership, Role, membership_in};
+use hpx_process::membership::{Membership, membership_in};
 use hpx_top::acts::AllActs;
 use hpx_top::breach::Breach;
 use hpx_top::run::run;
@@ -104,7 +105,7 @@ fn take_part<R: Wait, P: Opener, S: Source, K: Sink, E: Sink, F: Fabric>(
         let z = ports_of (S.left source.new) (S.taken source.new) (K.held sink.new) (S.faults source.new) (K.faults sink.new) (P.faults opener.new) in
         IfSome result.joined (λ j. (j.status ≡ result.status)
             × HasJoined membership.now j.status (option_map (λ m. left m.status (option_map (λ n. n.tables) m.node) m.journal.entries m.fault (P.Link.trace m.link) (P.Link.latest m.link) (P.Link.faults m.link)) j.member) x z) }
-    ensures worker { (node : ℕ) → membership.now.role ≡ Role.Worker node → (source.new ≡ source.old) × (sink.new ≡ sink.old) }
+    ensures worker { (node : ℕ) → membership.now.role ≡ Worker node → (source.new ≡ source.old) × (sink.new ≡ sink.old) }
 {
     let joined = join(rt, alloc, membership, opener, source, sink);
     let status = joined.status;
@@ -169,7 +170,7 @@ pub fn program<W: Words, S: Source, K: Sink, E: Sink, F: Fabric, P: Opener, R: T
         IfSome result.joined (λ j. HasJoinedAsAsked (W.words given.now) j.status
             (option_map (λ m. left m.status (option_map (λ n. n.tables) m.node) m.journal.entries m.fault (P.Link.trace m.link) (P.Link.latest m.link) (P.Link.faults m.link)) j.member) x z × (j.status ≡ result.status)) }
     ensures worker { (words : _) (membership : Membership) (node : ℕ) → W.words given.now ≡ Some words → membership_in words ≡ Some membership
-        → membership.role ≡ Role.Worker node → (source.new ≡ source.old) × (sink.new ≡ sink.old) }
+        → membership.role ≡ Worker node → (source.new ≡ source.old) × (sink.new ≡ sink.old) }
 {
     match all_words(alloc, given) {
         Ok(words) => match membership_in(&words) {
