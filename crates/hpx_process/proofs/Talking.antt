@@ -1,19 +1,26 @@
 -- Deed after deed.
-use Rattle.std.specs.Prelude.{◌||◌, ◌≢◌, ◌+◌, IfSome}
-use Rattle.std.specs.List.{flat_map, list_any}
+use Rattle.std.specs.Prelude.{◌||◌, ◌≢◌, ◌+◌, ◌⊎◌, IfSome}
+use Rattle.std.specs.List.{concat, flat_map, list_any}
 use Rattle.std.proofs.Common.{ℕ, Bool, true, false, List, [], ◌∷◌, ◌++◌, ◌≡◌, Option, Some, None, map, refl, sym, ap, ◌∙◌, subst, arith, append-nil, append_assoc, inl, inr}
 use Rattle.std.proofs.lemmas.List.{map-append}
 use Rattle.std.proofs.lemmas.List.Concat.{flat_map-append}
 use Rattle.std.proofs.lemmas.List.Folds.{list_any-append}
+use Rattle.hpx_journal.specs.Pool.{prints_of}
+use Rattle.hpx_part.specs.Data.{Entry}
 use Rattle.hpx_ports.specs.Told.{followed, preceded}
 use Rattle.app_console.specs.Lines.{is_quit, before_quit}
-use Rattle.hpx_member.specs.Talks.{Talk}
+use Rattle.hpx_member.specs.Talks.{Talk, Handed, talk_of}
 use Rattle.hpx_member.specs.declared.lines.LineFault.{LineFault}
-use Rattle.hpx_top.specs.Session.{HandsOut}
+use Rattle.hpx_member.specs.declared.lines.LineFault.TheVariants.{Write, OutOfMemory}
+use Rattle.hpx_top.specs.Reader.{Reading, lines_left}
+use Rattle.hpx_top.specs.Session.{HandsOut, WritesFront}
+use Rattle.hpx_top.specs.Texts.{commands}
+use Rattle.hpx_top.specs.declared.consoles.UserConsole.TheVariants.{Accumulator}
 use Rattle.hpx_top.proofs.LineLemmas.{followed_nothing, followed_twice, preceded_nothing, preceded_twice}
 use Rattle.hpx_process.specs.declared.sheet.Sheet.{Sheet}
 use Rattle.hpx_process.specs.declared.sheet.Sheet.TheVariants.{Blank, Open, Full}
-use Rattle.hpx_process.specs.Deeds.{AreLeft, Asking, Breaks, Broken, Deed, Does, Ends, Fails, HasBroken, HasTalked, Opening, Opens, Reads, Rests, Showing, Shows, Sitting, Takes, Turns, TurnsAll, Wrote, broken_lines, broken_text, lines_at, lines_by, talk_by, text_by, tried_by}
+use Rattle.hpx_process.specs.Asked.{IsAskedBy}
+use Rattle.hpx_process.specs.Deeds.{AreLeft, Asking, Breaks, Broken, Deed, Does, Ends, Fails, HasBroken, HasTalked, Opening, Opens, Reads, Rests, Showing, Shows, Sitting, Takes, Turns, TurnsAll, Wrote, broken_lines, broken_text, lines_at, lines_by, sitting, talk_by, text_by, tried_by}
 
 -- ---- parts of it
 
@@ -38,6 +45,12 @@ handed_more all mid left xs ys h g = record {
   first = h.first ∙ (ap (preceded xs) g.first ∙ preceded_twice xs ys left);
   goes_on = list_any-append is_quit xs ys ∙ (ap (λ b. b || list_any is_quit ys) h.goes_on ∙ g.goes_on);
 }
+
+-- a sheet on which entries are shown stays
+pub turn_shown : (s z : Sheet) (es : List Entry) → Turns s (Shows es) z → z ≡ s
+turn_shown Blank z es h = h
+turn_shown Open z es h = h
+turn_shown Full z es h = h
 
 -- ---- one deed more
 
@@ -126,3 +139,87 @@ talked_broken fault broken x y z talk t f =
       left = subst (λ s. AreLeft s lines.0 (lines_at z)) (sym f.sheet) lines.2;
       reads = reads_more x y z t.reads f.reads;
     }
+
+-- ---- deeds, one by one
+
+same_left : (s : Sheet) (o : Option (List (List ℕ))) → s ≢ Full → AreLeft s o o
+same_left Blank o other = refl
+same_left Open o other = refl
+same_left Full o other = absurd (other refl)
+
+pub opens_does : (s : Sheet) (reading : Reading) (left : Option (List ℕ)) (taken : ℕ) (old new : Option (List ℕ)) → s ≡ Blank → new ≡ followed old (commands Accumulator)
+    → Does Opens (sitting s reading left taken old) (sitting Open reading left taken new)
+opens_does s reading left taken old new blank h = record {
+  turns = subst (λ s. Turns s Opens Open) (sym blank) refl;
+  text = h;
+  others = lines_left reading left;
+  typed = λ other. handed_none (lines_left reading left);
+  left = λ other. refl;
+  reads = record { next = λ all h. h; counted = refl };
+}
+
+pub rests_does : (s : Sheet) (reading : Reading) (left : Option (List ℕ)) (taken : ℕ) (text : Option (List ℕ)) → s ≡ Full
+    → Does Rests (sitting s reading left taken text) (sitting s reading left taken text)
+rests_does s reading left taken text full = record {
+  turns = subst (λ a. Turns a Rests a) (sym full) refl;
+  text = sym (followed_nothing text);
+  others = None;
+  typed = λ other. absurd (other full);
+  left = λ other. absurd (other full);
+  reads = record { next = λ all h. h; counted = refl };
+}
+
+shows_turn : (s : Sheet) (es : List Entry) → Turns s (Shows es) s
+shows_turn Blank es = refl
+shows_turn Open es = refl
+shows_turn Full es = refl
+
+pub shows_does : (es : List Entry) (s : Sheet) (reading : Reading) (left : Option (List ℕ)) (taken : ℕ) (old new : Option (List ℕ)) → new ≡ followed old (concat (prints_of es))
+    → Does (Shows es) (sitting s reading left taken old) (sitting s reading left taken new)
+shows_does es s reading left taken old new h = record {
+  turns = shows_turn s es;
+  text = h;
+  others = lines_left reading left;
+  typed = λ other. handed_none (lines_left reading left);
+  left = λ other. same_left s (lines_left reading left) other;
+  reads = record { next = λ all h. h; counted = refl };
+}
+
+shows_break : (s : Sheet) (es : List Entry) → Breaks Write s (Showing es)
+shows_break Blank es = refl
+shows_break Open es = refl
+shows_break Full es = refl
+
+pub shows_fails : (es : List Entry) (s : Sheet) (reading : Reading) (left : Option (List ℕ)) (taken : ℕ) (old new : Option (List ℕ)) → WritesFront (concat (prints_of es)) old new
+    → Fails Write (Showing es) (sitting s reading left taken old) (sitting s reading left taken new)
+shows_fails es s reading left taken old new w = record {
+  sheet = refl;
+  breaks = shows_break s es;
+  text = w;
+  typed = λ other. handed_none (lines_left reading left);
+  reads = record { next = λ all h. h; counted = refl };
+}
+
+pub opening_fails : (fault : LineFault) (s : Sheet) (reading : Reading) (left : Option (List ℕ)) (taken : ℕ) (old new : Option (List ℕ)) → s ≡ Blank
+    → (fault ≡ Write) ⊎ (fault ≡ OutOfMemory) → Wrote fault (commands Accumulator) old new
+    → Fails fault Opening (sitting s reading left taken old) (sitting s reading left taken new)
+opening_fails fault s reading left taken old new blank why w = record {
+  sheet = refl;
+  breaks = subst (λ a. Breaks fault a Opening) (sym blank) why;
+  text = w;
+  typed = λ other. handed_none (lines_left reading left);
+  reads = record { next = λ all h. h; counted = refl };
+}
+
+-- what is answered is what the deed says
+pub said_by : (next : Option (List ℕ)) (deed : Deed) → IsAskedBy next deed → talk_of next ≡ talk_by deed ∷ []
+said_by (Some text) (Takes longs line) h = ap (λ l. Handed l ∷ []) h
+said_by (Some text) Opens h = absurd h
+said_by (Some text) (Ends longs) h = absurd h
+said_by (Some text) Rests h = absurd h
+said_by (Some text) (Shows es) h = absurd h
+said_by None (Ends longs) h = refl
+said_by None Opens h = absurd h
+said_by None (Takes longs line) h = absurd h
+said_by None Rests h = absurd h
+said_by None (Shows es) h = absurd h

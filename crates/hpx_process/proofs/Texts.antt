@@ -22,6 +22,7 @@ use Rattle.hpx_top.proofs.ReaderLemmas.{lines_left-start}
 use Rattle.hpx_process.specs.declared.sheet.Sheet.{Sheet}
 use Rattle.hpx_process.specs.declared.sheet.Sheet.TheVariants.{Blank, Open, Full}
 use Rattle.hpx_process.specs.Deeds.{AreLeft, AreLong, Deed, Ends, HasTalked, Opens, Rests, Shows, Sitting, Takes, Turns, TurnsAll, lines_at, lines_by, longs_text, talk_by, text_by}
+use Rattle.hpx_process.proofs.Talking.{turn_shown}
 use Rattle.hpx_process.specs.Parts.{IsPart, IsPartBy, IsWhole, Part, part_text}
 
 -- ---- lines that are too long
@@ -146,7 +147,7 @@ parted (b ∷ bs) rest (Takes longs line ∷ Shows es ∷ ds) end h t all =
     let second = same_head _ _ _ _ first.1 in
     let line_is : b.line ≡ 97 ∷ line = (let e : Handed b.line ≡ Handed (97 ∷ line) = first.0 in cc) in
     let shown_is : b.entries ≡ es = (let e : Shown b.entries ≡ Shown es = second.0 in cc) in
-    let sheet : t.2.0 ≡ Open = t.2.1 ∙ t.1.2 in
+    let sheet : t.2.0 ≡ Open = turn_shown t.0 t.2.0 es t.2.1 ∙ t.1.2 in
     let more = parted bs rest ds end second.1 (subst (λ s. TurnsAll s ds end) sheet t.2.2) all.1 in
     subst (λ e. Parted (b ∷ bs) rest (Takes longs line ∷ Shows e ∷ ds) end) shown_is (taken b bs rest longs line ds end line_is all.0 t.1.0 t.1.1 more)
 
@@ -192,7 +193,7 @@ begun (b ∷ bs) rest (Opens ∷ Shows es ∷ ds) end h t all =
       opened = subst (λ l. BeginsWith l b.entries) line_is all.0;
       entries = refl;
       is = ap (λ e. Opens ∷ Shows e ∷ ds) (sym shown_is);
-      parts = parted bs rest ds end second.1 (subst (λ s. TurnsAll s ds end) (t.2.1 ∙ t.1) t.2.2) all.1;
+      parts = parted bs rest ds end second.1 (subst (λ s. TurnsAll s ds end) (turn_shown t.0 t.2.0 es t.2.1 ∙ t.1) t.2.2) all.1;
     }
 
 -- the lines that were typed up to the end of the input, or to a quit
