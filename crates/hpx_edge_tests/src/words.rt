@@ -76,7 +76,15 @@ fn status_of<W: Words, R: Threads + Wait + Sync>(
     let fabric = SureFabric::new(alloc, Order::FirstIn);
     let mut opener = quiet_opener(alloc);
     program(
-        rt, alloc, given, source, text, line, fabric, &mut opener, &OpenGate,
+        rt,
+        alloc,
+        given,
+        source,
+        text,
+        line,
+        fabric,
+        &mut opener,
+        &OpenGate,
     )
     .status
 }
@@ -192,11 +200,7 @@ const ROWS: [Row; 14] = [
         b"",
     ),
     (
-        &[
-            b"space",
-            b"--hpx:agas=127.0.0.1:7910",
-            b"--hpx:console",
-        ],
+        &[b"space", b"--hpx:agas=127.0.0.1:7910", b"--hpx:console"],
         b"hpx: bad word 0\n",
     ),
 ];

@@ -34,7 +34,12 @@ fn launching<E: Env>(env: &E, alloc: Global) -> Result<Texts, OutOfMemory> {
     let mut words = Items::new(alloc);
     words.push(word(alloc, b"--program")?)?;
     words.push(own_path(env, alloc)?)?;
-    for given in &[b"--localities=2".as_slice(), b"--port=7940", b"--", b"accumulator"] {
+    for given in &[
+        b"--localities=2".as_slice(),
+        b"--port=7940",
+        b"--",
+        b"accumulator",
+    ] {
         words.push(word(alloc, given)?)?;
     }
     Ok(words)

@@ -28,7 +28,6 @@ use Rattle.hpx_process.proofs.Texts.{whole}
 
 -- ---- what holds of all that is said
 
-
 abbrev serves_as : {r : Rules} {es : List Entry} {stage : Stage} (Said Said' : List Talk → List Talk → Type 0) → ((a b : List Talk) → Said a b → Said' a b)
     → Serves r es Said stage → Serves r es Said' stage
 serves_as Said Said' f s =
@@ -215,7 +214,7 @@ reckoned_whole r status line es x z none well served =
     let s = served_done r es (HasPassed line x z) (HasStuck line x z) (subst (λ n. HasServed r n es (HasPassed line x z) (HasStuck line x z)) well served) in
     let asked : z.asked ≡ true = over_said s.blocks s.rest _ s.talk.over in
     let fed = lines_fed_append (entries_in s.blocks) s.rest
-        ∙ (ap (λ l. lines_fed (entries_in s.blocks) ++ l) (none_fed s.rest s.at) ∙ (append-nil (lines_fed (entries_in s.blocks)) ∙ fed_blocks s.blocks s.begin)) in
+    ∙ (ap (λ l. lines_fed (entries_in s.blocks) ++ l) (none_fed s.rest s.at) ∙ (append-nil (lines_fed (entries_in s.blocks)) ∙ fed_blocks s.blocks s.begin)) in
     let handed = flat_map-append handed_by (talk_in s.blocks) (Over ∷ (Shown s.rest ∷ [])) ∙ (append-nil (handed_in (talk_in s.blocks)) ∙ handed_blocks s.blocks) in
     let shown = flat_map-append shown_by (talk_in s.blocks) (Over ∷ (Shown s.rest ∷ [])) ∙ (ap (λ l. l ++ (s.rest ++ [])) (shown_blocks s.blocks) ∙ ap (λ l. entries_in s.blocks ++ l) (append-nil s.rest)) in (
       ap lines_fed s.is ∙ (fed ∙ (sym handed ∙ (sym (append-nil _) ∙ (ap (λ b. handed_in (talk_in s.blocks ++ (Over ∷ (Shown s.rest ∷ []))) ++ unasked b line) (sym asked) ∙ (sym s.talk.handed ∙ ap (λ b. unasked b line) none))))),

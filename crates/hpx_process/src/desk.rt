@@ -158,11 +158,11 @@ impl<'s, 'k, S: Source, K: Sink> Lines for Desk<'s, 'k, S, K> {
 
     ghost went = { λ first now talk. (now.source.ghost_name ≡ first.source.ghost_name) × (now.sink.ghost_name ≡ first.sink.ghost_name)
         × HasTalked (sitting first.sheet first.reader (S.left first.source.now) (S.taken first.source.now) (K.held first.sink.now))
-            (sitting now.sheet now.reader (S.left now.source.now) (S.taken now.source.now) (K.held now.sink.now)) talk };
+        (sitting now.sheet now.reader (S.left now.source.now) (S.taken now.source.now) (K.held now.sink.now)) talk };
 
     ghost broke = { λ first now fault talk tried. (now.source.ghost_name ≡ first.source.ghost_name) × (now.sink.ghost_name ≡ first.sink.ghost_name)
         × HasBroken (sitting first.sheet first.reader (S.left first.source.now) (S.taken first.source.now) (K.held first.sink.now))
-            (sitting now.sheet now.reader (S.left now.source.now) (S.taken now.source.now) (K.held now.sink.now)) fault talk tried };
+        (sitting now.sheet now.reader (S.left now.source.now) (S.taken now.source.now) (K.held now.sink.now)) fault talk tried };
 
     fn next(&mut self, alloc: Global) -> Result<Option<Text>, LineFault> {
         match self.sheet {

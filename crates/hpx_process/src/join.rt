@@ -61,12 +61,10 @@ fn serve<R: Wait, L: Link + Drop, S: Source, K: Sink>(
     requires empty { (tr : List Post) → L.trace link ≡ Some tr → tr ≡ [] }
     requires faultless { L.faults link ≡ 0 }
     ensures console { IsConsole membership.now.localities membership.now.profile settles (left result.status (option_map (λ n. n.tables) result.node) result.journal.entries result.fault (L.trace result.link) (L.latest result.link) (L.faults result.link)) }
-    ensures sat {
-        let x = ports_of (S.left source.old) (S.taken source.old) (K.held sink.old) (S.faults source.old) (K.faults sink.old) 0 in
+    ensures sat { let x = ports_of (S.left source.old) (S.taken source.old) (K.held sink.old) (S.faults source.old) (K.faults sink.old) 0 in
         let z = ports_of (S.left source.new) (S.taken source.new) (K.held sink.new) (S.faults source.new) (K.faults sink.new) 0 in
         HasSat (rules_of act_of membership.now.localities membership.now.profile) (left result.status (option_map (λ n. n.tables) result.node) result.journal.entries result.fault (L.trace result.link) (L.latest result.link) (L.faults result.link)) x z }
-    ensures cause {
-        let x = ports_of (S.left source.old) (S.taken source.old) (K.held sink.old) (S.faults source.old) (K.faults sink.old) 0 in
+    ensures cause { let x = ports_of (S.left source.old) (S.taken source.old) (K.held sink.old) (S.faults source.old) (K.faults sink.old) 0 in
         let z = ports_of (S.left source.new) (S.taken source.new) (K.held sink.new) (S.faults source.new) (K.faults sink.new) 0 in
         HasMembersCause result.status (L.faults result.link) x z }
 {
@@ -74,7 +72,15 @@ fn serve<R: Wait, L: Link + Drop, S: Source, K: Sink>(
         localities: membership.localities,
     };
     let mut desk = Desk::new(alloc, source, sink);
-    console(rt, alloc, acts, membership.profile, settles, link, &mut desk)
+    console(
+        rt,
+        alloc,
+        acts,
+        membership.profile,
+        settles,
+        link,
+        &mut desk,
+    )
 }
 
 /// The console of processes that compute. It has no source.
@@ -93,12 +99,10 @@ fn reckon<R: Wait, L: Link + Drop, K: Sink>(
     requires empty { (tr : List Post) → L.trace link ≡ Some tr → tr ≡ [] }
     requires faultless { L.faults link ≡ 0 }
     ensures console { IsConsole membership.now.localities membership.now.profile settles (left result.status (option_map (λ n. n.tables) result.node) result.journal.entries result.fault (L.trace result.link) (L.latest result.link) (L.faults result.link)) }
-    ensures reckoned {
-        let x = ports_of None 0 (K.held sink.old) 0 (K.faults sink.old) 0 in
+    ensures reckoned { let x = ports_of None 0 (K.held sink.old) 0 (K.faults sink.old) 0 in
         let z = ports_of None 0 (K.held sink.new) 0 (K.faults sink.new) 0 in
         HasReckoned (rules_of act_of membership.now.localities membership.now.profile) (problem_line problem) (left result.status (option_map (λ n. n.tables) result.node) result.journal.entries result.fault (L.trace result.link) (L.latest result.link) (L.faults result.link)) x z }
-    ensures cause {
-        let x = ports_of None 0 (K.held sink.old) 0 (K.faults sink.old) 0 in
+    ensures cause { let x = ports_of None 0 (K.held sink.old) 0 (K.faults sink.old) 0 in
         let z = ports_of None 0 (K.held sink.new) 0 (K.faults sink.new) 0 in
         HasMembersCause result.status (L.faults result.link) x z }
     ensures no_read { (result.status ≢ 2) × (result.status ≢ 9) }
@@ -107,7 +111,15 @@ fn reckon<R: Wait, L: Link + Drop, K: Sink>(
         localities: membership.localities,
     };
     let mut slip = Slip::new(problem, sink);
-    console(rt, alloc, acts, membership.profile, settles, link, &mut slip)
+    console(
+        rt,
+        alloc,
+        acts,
+        membership.profile,
+        settles,
+        link,
+        &mut slip,
+    )
 }
 
 /// Another locality than the console.
@@ -166,12 +178,10 @@ fn lead<R: Wait, L: Link + Drop, S: Source, K: Sink>(
     requires empty { (tr : List Post) → L.trace link ≡ Some tr → tr ≡ [] }
     requires faultless { L.faults link ≡ 0 }
     ensures console { IsConsole membership.now.localities membership.now.profile settles (left result.1.status (option_map (λ n. n.tables) result.1.node) result.1.journal.entries result.1.fault (L.trace result.1.link) (L.latest result.1.link) (L.faults result.1.link)) }
-    ensures led {
-        let x = ports_of (S.left source.old) (S.taken source.old) (K.held sink.old) (S.faults source.old) (K.faults sink.old) 0 in
+    ensures led { let x = ports_of (S.left source.old) (S.taken source.old) (K.held sink.old) (S.faults source.old) (K.faults sink.old) 0 in
         let z = ports_of (S.left source.new) (S.taken source.new) (K.held sink.new) (S.faults source.new) (K.faults sink.new) 0 in
         HasLed membership.now result.0 (left result.1.status (option_map (λ n. n.tables) result.1.node) result.1.journal.entries result.1.fault (L.trace result.1.link) (L.latest result.1.link) (L.faults result.1.link)) x z }
-    ensures cause {
-        let x = ports_of (S.left source.old) (S.taken source.old) (K.held sink.old) (S.faults source.old) (K.faults sink.old) 0 in
+    ensures cause { let x = ports_of (S.left source.old) (S.taken source.old) (K.held sink.old) (S.faults source.old) (K.faults sink.old) 0 in
         let z = ports_of (S.left source.new) (S.taken source.new) (K.held sink.new) (S.faults source.new) (K.faults sink.new) 0 in
         HasMembersCause result.0 (L.faults result.1.link) x z }
     ensures ends { IsConsolesStatus result.0 }
@@ -200,11 +210,10 @@ pub fn join<R: Wait, P: Opener, S: Source, K: Sink>(
     sink: &mut K,
 ) -> Joined<P::Link>
     requires { IsMembership membership.now }
-    ensures joined {
-        let x = ports_of (S.left source.old) (S.taken source.old) (K.held sink.old) (S.faults source.old) (K.faults sink.old) (P.faults opener.old) in
+    ensures joined { let x = ports_of (S.left source.old) (S.taken source.old) (K.held sink.old) (S.faults source.old) (K.faults sink.old) (P.faults opener.old) in
         let z = ports_of (S.left source.new) (S.taken source.new) (K.held sink.new) (S.faults source.new) (K.faults sink.new) (P.faults opener.new) in
         HasJoined membership.now result.status
-            (option_map (λ m. left m.status (option_map (λ n. n.tables) m.node) m.journal.entries m.fault (P.Link.trace m.link) (P.Link.latest m.link) (P.Link.faults m.link)) result.member) x z }
+        (option_map (λ m. left m.status (option_map (λ n. n.tables) m.node) m.journal.entries m.fault (P.Link.trace m.link) (P.Link.latest m.link) (P.Link.faults m.link)) result.member) x z }
     ensures worker { (node : ℕ) → membership.now.role ≡ Role.Worker node → (source.new ≡ source.old) × (sink.new ≡ sink.old) }
     ensures unread { (problem : Problem) → membership.now.errand ≡ Errand.Problem problem → source.new ≡ source.old }
     ensures unlinked { result.member ≡ None → (source.new ≡ source.old) × (sink.new ≡ sink.old) }

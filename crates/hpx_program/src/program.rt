@@ -104,7 +104,7 @@ fn take_part<R: Wait, P: Opener, S: Source, K: Sink, E: Sink, F: Fabric>(
     ensures joined { let x = ports_of (S.left source.old) (S.taken source.old) (K.held sink.old) (S.faults source.old) (K.faults sink.old) (P.faults opener.old) in
         let z = ports_of (S.left source.new) (S.taken source.new) (K.held sink.new) (S.faults source.new) (K.faults sink.new) (P.faults opener.new) in
         IfSome result.joined (λ j. (j.status ≡ result.status)
-            × HasJoined membership.now j.status (option_map (λ m. left m.status (option_map (λ n. n.tables) m.node) m.journal.entries m.fault (P.Link.trace m.link) (P.Link.latest m.link) (P.Link.faults m.link)) j.member) x z) }
+        × HasJoined membership.now j.status (option_map (λ m. left m.status (option_map (λ n. n.tables) m.node) m.journal.entries m.fault (P.Link.trace m.link) (P.Link.latest m.link) (P.Link.faults m.link)) j.member) x z) }
     ensures worker { (node : ℕ) → membership.now.role ≡ Worker node → (source.new ≡ source.old) × (sink.new ≡ sink.old) }
 {
     let joined = join(rt, alloc, membership, opener, source, sink);
@@ -125,7 +125,16 @@ fn take_part<R: Wait, P: Opener, S: Source, K: Sink, E: Sink, F: Fabric>(
 
 /// Runs on the words that it is started with, and ends as that run ends. Where there is no memory for the words, nothing is run, and
 /// the status is 6. A status other than 0 writes one line on `err`, and nothing else is written there.
-pub fn program<W: Words, S: Source, K: Sink, E: Sink, F: Fabric, P: Opener, R: Threads + Wait + Sync, G: Gate>(
+pub fn program<
+    W: Words,
+    S: Source,
+    K: Sink,
+    E: Sink,
+    F: Fabric,
+    P: Opener,
+    R: Threads + Wait + Sync,
+    G: Gate,
+>(
     rt: &R,
     alloc: Global,
     given: &W,
@@ -168,7 +177,7 @@ pub fn program<W: Words, S: Source, K: Sink, E: Sink, F: Fabric, P: Opener, R: T
     ensures joined { let x = ports_of (S.left source.old) (S.taken source.old) (K.held sink.old) (S.faults source.old) (K.faults sink.old) (P.faults opener.old) in
         let z = ports_of (S.left source.new) (S.taken source.new) (K.held sink.new) (S.faults source.new) (K.faults sink.new) (P.faults opener.new) in
         IfSome result.joined (λ j. HasJoinedAsAsked (W.words given.now) j.status
-            (option_map (λ m. left m.status (option_map (λ n. n.tables) m.node) m.journal.entries m.fault (P.Link.trace m.link) (P.Link.latest m.link) (P.Link.faults m.link)) j.member) x z × (j.status ≡ result.status)) }
+        (option_map (λ m. left m.status (option_map (λ n. n.tables) m.node) m.journal.entries m.fault (P.Link.trace m.link) (P.Link.latest m.link) (P.Link.faults m.link)) j.member) x z × (j.status ≡ result.status)) }
     ensures worker { (words : _) (membership : Membership) (node : ℕ) → W.words given.now ≡ Some words → membership_in words ≡ Some membership
         → membership.role ≡ Worker node → (source.new ≡ source.old) × (sink.new ≡ sink.old) }
 {

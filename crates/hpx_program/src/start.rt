@@ -18,7 +18,14 @@ use std::time::Clock;
 /// `main` hands it. The system tells nothing of its words, streams and sockets, so there is nothing to say of them here: `program` says it.
 pub fn start<R>(rt: &HostRuntime, machine: R) -> ExitCode
 where
-    R: Net<Listener = TcpListener, Stream = TcpStream> + Threads + Wait + Clock + Copy + Send + Sync + 'static,
+    R: Net<Listener = TcpListener, Stream = TcpStream>
+        + Threads
+        + Wait
+        + Clock
+        + Copy
+        + Send
+        + Sync
+        + 'static,
 {
     let mut err = WriterSink::new(rt.stderr());
     let Ok(readers) = Box::new(rt.alloc(), move |reader| start_reader(machine, reader)) else {
