@@ -23,8 +23,6 @@ mod plain;
 #[cfg(test)]
 mod pool;
 #[cfg(test)]
-mod refused;
-#[cfg(test)]
 mod running;
 #[cfg(test)]
 mod runs;
