@@ -3,8 +3,8 @@
 
 The session is the program crates/hpx_wanting. It is built and run by `rt try --fail-alloc N` for N = 1, 2, .. until a
 run ends with status 0: then the session makes fewer allocations than that. Each run before has to end with status 6.
-Where the world was there by then, the judge has accepted the journal that was left, a job that was out was handed back,
-and the session went on from it and left as many entries as the whole one.
+By that status the program says, where its world was there by then, that the judge accepted the journal that was left, a
+job that was out was handed back, and the session went on from there to its whole text.
 
 Run it anywhere in the repository, with `rt` on the path. Each run is built anew and takes a while: with words, as in
 `allocations.py 40 5`, it begins at that allocation and refuses every fifth.
@@ -16,7 +16,7 @@ import subprocess
 import sys
 
 CRATE = pathlib.Path(__file__).resolve().parent.parent / "crates" / "hpx_wanting"
-STATUS = re.compile(r"status[ =:]+(\d+)")
+STATUS = re.compile(r"^run=ended status=(\d+)", re.M)
 
 
 def run(*words):
@@ -29,16 +29,12 @@ def run(*words):
 def main():
     n = int(sys.argv[1]) if len(sys.argv) > 1 else 1
     every = int(sys.argv[2]) if len(sys.argv) > 2 else 1
-    status, whole = run()
-    assert status == 0, (status, whole)
-    entries = whole.split(" ")[0]
     while True:
         status, text = run("--fail-alloc", str(n))
         print(n, status, text or "no world")
         if status == 0:
             break
         assert status == 6, "what was left is not right"
-        assert not text or text.split(" ")[0] == entries, "the session came to something else"
         n += every
 
 

@@ -90,13 +90,15 @@ fn told_by(alloc: Global, world: &Option<World<AllActs>>) -> Option<Told> {
 
 /// One thing that happened, spelled, and whether a frame was sent.
 fn spell(out: &mut Vec<u8>, wire: &Wire) -> Result<bool, OutOfMemory> {
-    let (head, bytes) = match wire {
-        Wire::Sent { from, to, bytes } => ([b's', *from as u8, *to as u8], bytes),
-        Wire::Delivered { to, bytes } => ([b'd', 0, *to as u8], bytes),
+    let (sent, from, to, bytes) = match wire {
+        Wire::Sent { from, to, bytes } => (true, *from, *to, bytes),
+        Wire::Delivered { to, bytes } => (false, 0, *to, bytes),
     };
-    out.extend_from_slice(head.as_slice())?;
+    out.push(if sent { b's' } else { b'd' })?;
+    out.extend_from_slice(from.to_be_bytes().as_slice())?;
+    out.extend_from_slice(to.to_be_bytes().as_slice())?;
     out.extend_from_slice(bytes.as_slice())?;
-    Ok(head[0] == b's')
+    Ok(sent)
 }
 
 /// What happened, counted and spelled. Where memory is wanting the spelling is cut.

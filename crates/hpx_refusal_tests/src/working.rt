@@ -70,7 +70,8 @@ fn session<R: Threads + Wait + Sync>(
     refusal: &Refusal,
 ) -> Result<Ended, OutOfMemory> {
     let words = &[b"space".as_slice(), b"--hpx:localities=2", threads];
-    ran(rt, alloc, words, input(alloc)?.as_slice(), refusal)
+    let input = input(alloc)?;
+    ran(rt, alloc, words, input.as_slice(), refusal)
 }
 
 /// Nothing is in hand, the journal is legal, what was sent and not delivered is in flight, the text is a front of the whole one, and no
@@ -127,7 +128,8 @@ fn refused_in_turn<R: Threads + Wait + Sync + Abort>(
     last: u64,
 ) -> Result<u32, OutOfMemory> {
     let whole = session(rt, alloc, b"--hpx:threads=1", &Refusal { call, n: 0 })?;
-    assert!(rt; whole.left.status == 0 && whole.text.ends_with(b"> > 24\n> "));
+    assert_eq!(rt; whole.left.status, 0);
+    assert!(rt; whole.text.as_slice().ends_with(b"> > 24\n> "));
     let mut worked = 0u32;
     for n in 1..=last {
         match refused(rt, alloc, &Refusal { call, n }, whole.text.as_slice())? {

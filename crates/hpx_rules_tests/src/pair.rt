@@ -57,21 +57,8 @@ fn tend(alloc: Global, site: &mut Site) -> Result<(), OutOfMemory> {
     }
 }
 
-/// All is done that there is to do, if that is little.
-fn settle(alloc: Global, pair: &mut Pair) -> Result<(), OutOfMemory> {
-    for _ in 0..40 {
-        run(alloc, &mut pair.first)?;
-        run(alloc, &mut pair.second)?;
-        tend(alloc, &mut pair.first)?;
-        tend(alloc, &mut pair.second)?;
-        carry(alloc, &mut pair.first, &mut pair.second)?;
-        carry(alloc, &mut pair.second, &mut pair.first)?;
-    }
-    Ok(())
-}
-
 /// One step: `0` and `1` run a job there, `2` and `3` take one out, `x` and `y` carry a frame to the home and back, `w` loses one of the
-/// home, `u` and `v` tend to a desk, `s` does all that is left to do; a capital brings a frame from outside; any other byte is a line.
+/// home, `u` and `v` tend to a desk, a capital brings a frame from outside; any other byte is a line.
 fn step(alloc: Global, pair: &mut Pair, byte: u8) -> Result<(), OutOfMemory> {
     match byte {
         b'0' => run(alloc, &mut pair.first),
@@ -83,7 +70,6 @@ fn step(alloc: Global, pair: &mut Pair, byte: u8) -> Result<(), OutOfMemory> {
         b'w' => lose(alloc, &mut pair.second),
         b'u' => tend(alloc, &mut pair.first),
         b'v' => tend(alloc, &mut pair.second),
-        b's' => settle(alloc, pair),
         b'A'..=b'Z' => bring(alloc, pair, byte),
         line => pair.first.feed(alloc, line),
     }

@@ -77,168 +77,168 @@ pub const SCENES: [Scene; 25] = [
     },
     // The number stands at its home, and the session keeps its id.
     Scene {
-        script: b"ns",
+        script: b"n0x1y0",
         first: [(None, Away, 256), NOTHING, NOTHING],
         second: [(WHOLE, Here, 0), NOTHING, NOTHING],
         asked: None,
     },
     // A call is on its way out.
     Scene {
-        script: b"nsa0",
+        script: b"n0x1y0a0",
         first: [(None, Away, 256), NOTHING, NOTHING],
         second: [(WHOLE, Here, 0), NOTHING, NOTHING],
         asked: None,
     },
     // It is accepted.
     Scene {
-        script: b"nsa0x",
+        script: b"n0x1y0a0x",
         first: [(None, Away, 128), NOTHING, NOTHING],
         second: [(WHOLE, Here, 128), NOTHING, NOTHING],
         asked: None,
     },
     // The home has begun a move: what it grants is on its own desk.
     Scene {
-        script: b"nsm0x",
+        script: b"n0x1y0m0x",
         first: [(None, Away, 128), NOTHING, NOTHING],
         second: [(MOVING, Here, 128), NOTHING, NOTHING],
         asked: None,
     },
     // The number is to leave.
     Scene {
-        script: b"nsm0xv",
+        script: b"n0x1y0m0xv",
         first: [(None, Away, 128), NOTHING, NOTHING],
         second: [(MOVING, Leaving, 128), NOTHING, NOTHING],
         asked: None,
     },
     // It has left.
     Scene {
-        script: b"nsm0xvv",
+        script: b"n0x1y0m0xvv",
         first: [(None, Away, 128), NOTHING, NOTHING],
         second: [(MOVING, Away, 128), NOTHING, NOTHING],
         asked: None,
     },
     // It has landed, and its MOVE is not done.
     Scene {
-        script: b"nsm0xvvy",
+        script: b"n0x1y0m0xvvy",
         first: [(None, Here, 256), NOTHING, NOTHING],
         second: [(MOVING, Away, 0), NOTHING, NOTHING],
         asked: None,
     },
     // Its home is to be told.
     Scene {
-        script: b"nsm0xvvy0",
+        script: b"n0x1y0m0xvvy0",
         first: [(None, Here, 128), NOTHING, NOTHING],
         second: [(MOVING, Away, 0), NOTHING, NOTHING],
         asked: None,
     },
     // Its home has been told.
     Scene {
-        script: b"nsm0xvvy0x",
+        script: b"n0x1y0m0xvvy0x",
         first: [(None, Here, 128), NOTHING, NOTHING],
         second: [(MOVED, Away, 0), NOTHING, NOTHING],
         asked: None,
     },
     // A call where it is now.
     Scene {
-        script: b"nsm0xvvy0xa0",
+        script: b"n0x1y0m0xvvy0xa0",
         first: [(None, Here, 128), NOTHING, NOTHING],
         second: [(MOVED, Away, 0), NOTHING, NOTHING],
         asked: None,
     },
     // A call waits until it has moved.
     Scene {
-        script: b"nsm0xva0x",
+        script: b"n0x1y0m0xva0x",
         first: [(None, Away, 64), NOTHING, NOTHING],
         second: [(QUEUED, Leaving, 192), NOTHING, NOTHING],
         asked: None,
     },
     // It is to leave, and cannot yet.
     Scene {
-        script: b"nsa0xm0xv",
+        script: b"n0x1y0a0xm0xv",
         first: [(None, Away, 64), NOTHING, NOTHING],
         second: [(MOVING, Leaving, 192), NOTHING, NOTHING],
         asked: None,
     },
     // The ninth call of nine asks for more credit.
     Scene {
-        script: b"nsa0xa0xa0xa0xa0xa0xa0xa0xa0",
+        script: b"n0x1y0a0xa0xa0xa0xa0xa0xa0xa0xa0",
         first: [NOTHING, NOTHING, NOTHING],
         second: [(WHOLE, Here, 255), NOTHING, NOTHING],
         asked: Some(1),
     },
     // Two more objects are made; the answers that bring their ids are on the way.
     Scene {
-        script: b"nsA1B1",
+        script: b"n0x1y0A1B1",
         first: KEPT,
         second: [NEW, (WHOLE, Here, 256), (WHOLE, Here, 256)],
         asked: None,
     },
     // The answers are lost, and the second object is to move: what its home grants is on its desk.
     Scene {
-        script: b"nsA1wB1wC",
+        script: b"n0x1y0A1wB1wC",
         first: KEPT,
         second: [NEW, (MOVING, Here, 8), NEW],
         asked: None,
     },
     // It has moved.
     Scene {
-        script: b"nsA1wB1wCvvy0x",
+        script: b"n0x1y0A1wB1wCvvy0x",
         first: [(None, Away, 256), (None, Here, 0), NOTHING],
         second: [NEW, (GONE, Away, 0), NEW],
         asked: None,
     },
     // Where it is now, and on the third object, actions with continuations are under way.
     Scene {
-        script: b"nsA1wB1wCvvy0xD2E3",
+        script: b"n0x1y0A1wB1wCvvy0xD2E3",
         first: [(None, Away, 256), (None, Here, 1), NOTHING],
         second: [(WHOLE, Here, 4), (GONE, Away, 0), (WHOLE, Here, 2)],
         asked: None,
     },
     // The third object has been added to; the answer is accepted, and the id of its target rides with it.
     Scene {
-        script: b"nsA1wB1wE1",
+        script: b"n0x1y0A1wB1wE1",
         first: KEPT,
         second: [(WHOLE, Here, 4), NEW, (WHOLE, Here, 2)],
         asked: None,
     },
     // An object comes whose state keeps an id and a continuation.
     Scene {
-        script: b"nsA1wB1wF",
+        script: b"n0x1y0A1wB1wF",
         first: [(None, Away, 272), NOTHING, (None, Here, 2)],
         second: [NEW, NEW, NEW],
         asked: None,
     },
     // It has landed there.
     Scene {
-        script: b"nsA1wB1wF0",
+        script: b"n0x1y0A1wB1wF0",
         first: [(None, Away, 272), NOTHING, (None, Here, 0)],
         second: [NEW, NEW, NEW],
         asked: None,
     },
     // On the desk of the home lie a Give that nobody there asked for, and two Returns.
     Scene {
-        script: b"nsA1wB1wGI1",
+        script: b"n0x1y0A1wB1wGI1",
         first: KEPT,
         second: [NEW, NEW, (GIVEN, Here, 0)],
         asked: None,
     },
     // On its desk lies an answer to an object that was never made.
     Scene {
-        script: b"nsA1wB1wH1",
+        script: b"n0x1y0A1wB1wH1",
         first: KEPT,
         second: [(WHOLE, Here, 2), NEW, NEW],
         asked: None,
     },
     // The second object is to leave, and an action waits for it.
     Scene {
-        script: b"nsA1wB1wCvJ",
+        script: b"n0x1y0A1wB1wCvJ",
         first: KEPT,
         second: [NEW, (QUEUED, Leaving, 12), NEW],
         asked: None,
     },
     // A move and a Give lie on the desk, and an action with a continuation is under way.
     Scene {
-        script: b"nsA1wB1wCGE3",
+        script: b"n0x1y0A1wB1wCGE3",
         first: KEPT,
         second: [(WHOLE, Here, 4), (MOVING, Here, 8), (GIVEN, Here, 2)],
         asked: None,

@@ -11,7 +11,7 @@ use std::alloc::Global;
 use std::io;
 use std::process::ExitCode;
 
-/// The session's lines: a number is made, called, asked for, moved, called, asked for and dropped.
+/// A number is made, called, asked for, moved, called, asked for and dropped.
 const LINES: &[u8] = b"naqmaqd";
 
 /// What the session comes to.
@@ -25,14 +25,10 @@ fn played(alloc: Global) -> Result<Told, OutOfMemory> {
 
 /// The status for what the session came to, which is printed.
 fn shown(rt: &HostRuntime, told: Told) -> io::Result<u8> {
-    let Told {
-        entries,
-        wanted,
-        wrong,
-    } = told;
-    println!(rt; "{entries} entries, memory wanting {wanted} times")?;
+    let Told { wanted, wrong } = told;
+    println!(rt; "memory was wanting {wanted} times")?;
     if wrong {
-        println!(rt; "what is left is not right")?;
+        println!(rt; "what was left is not right")?;
         return Ok(1);
     }
     Ok(if wanted > 0 { 6 } else { 0 })

@@ -2,7 +2,7 @@
 use hpx_journal::cargo::one;
 use hpx_journal::entry::Event;
 use hpx_journal::journal::Journal;
-use hpx_judged::worlds::is_legal;
+use hpx_judged::worlds::{is_legal, printed};
 use hpx_ports::memory_fabric::SureFabric;
 use hpx_ports::order::Order;
 use hpx_trial::trial::Trial;
@@ -29,13 +29,15 @@ pub struct Session {
     wrong: bool,
 }
 
-/// How many entries the journal has in the end, how often memory was wanting, and whether what was left was ever not right.
+/// How often memory was wanting, and whether what was left then, or in the end, was not right.
 #[derive(Clone, Copy)]
 pub struct Told {
-    pub entries: u64,
     pub wanted: u32,
     pub wrong: bool,
 }
+
+/// What the session prints.
+const TEXT: &[u8] = b"5\n10\n";
 
 /// Whether a job is out: one was handed out and is not done.
 fn is_out(journal: &Journal) -> bool {
@@ -142,13 +144,21 @@ impl Session {
         Ok(())
     }
 
-    /// What it came to. The judge is asked once more where it had no memory.
+    /// Whether all has come to rest, the text is whole, and the judge accepts the journal.
+    fn is_whole(&self, alloc: Global) -> bool {
+        let text = match printed(alloc, self.world.journal(), 0) {
+            Ok(text) => text,
+            Err(_) => return false,
+        };
+        self.world.quiet() && text.as_slice() == TEXT && is_legal(alloc, &self.world, PROFILE)
+    }
+
+    /// What it came to. Where memory was wanting to tell it, that is tried once more.
     pub fn told(&self, alloc: Global) -> Told {
-        let legal = is_legal(alloc, &self.world, PROFILE) || is_legal(alloc, &self.world, PROFILE);
+        let whole = self.is_whole(alloc) || self.is_whole(alloc);
         Told {
-            entries: self.world.journal().entries(),
             wanted: self.wanted,
-            wrong: self.wrong || !legal || !self.world.quiet(),
+            wrong: self.wrong || !whole,
         }
     }
 }
