@@ -23,6 +23,8 @@ mod plain;
 #[cfg(test)]
 mod pool;
 #[cfg(test)]
+mod refused;
+#[cfg(test)]
 mod running;
 #[cfg(test)]
 mod runs;
