@@ -12,6 +12,7 @@ use hpx_value::items::{Bytes, Lengths};
 use hpx_value::profile::Profile;
 use std::alloc::{AllocError, Global};
 use std::collections::VecDeque;
+use std::process::Abort;
 use std::sync::Wait;
 
 /// A new object has a credit of 256.
@@ -121,13 +122,12 @@ pub fn worker_ran<R: Wait>(
     leaves(alloc, &end, Vec::new(alloc))
 }
 
-/// How a console is run: of so many localities, whether it settles, its lines, and which calls fail.
+/// How a console is run: at how many localities, whether a round is to end before each line but the first, and its lines.
 #[derive(Clone, Copy)]
 pub struct Session {
     pub localities: u32,
     pub settles: bool,
     pub lines: &'static [&'static str],
-    pub faults: Faults,
 }
 
 /// A console over a link where this comes, and these sends and receives fail. What `console` says of it is not needed behind it.
@@ -153,12 +153,26 @@ pub fn console_ran<R: Wait>(
     alloc: Global,
     session: &Session,
     coming: VecDeque<(u32, Bytes)>,
+    faults: &Faults,
 ) -> Result<Ran, AllocError> {
-    let faults = &session.faults;
     let mut script = Script::new(alloc, session.lines, faults.unread, faults.writes)?;
     let sends = calls(alloc, faults.sends)?;
     let receives = calls(alloc, faults.receives)?;
     let end = console_end(rt, alloc, session, coming, sends, receives, &mut script);
-    let text = Vec::from_slice(alloc, script.text())?;
+    let text = Vec::from_slice(alloc, script.sink.bytes())?;
     leaves(alloc, &end, text)
+}
+
+/// A member came to this status, and did not accept this, wrote so many entries, sent this, and showed nothing.
+pub fn assert_is(
+    rt: &impl Abort,
+    i: usize,
+    ran: &Ran,
+    sent: &[u8],
+    want: (u8, Odd, u64, &'static str),
+) {
+    let (status, odd, entries, said) = want;
+    assert_eq!(rt; (ran.status, ran.odd, ran.entries), (status, odd, entries), "row {i}");
+    assert!(rt; sent == said.as_bytes(), "row {i}");
+    assert!(rt; ran.text.is_empty(), "row {i}");
 }

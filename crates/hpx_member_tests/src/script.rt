@@ -1,6 +1,5 @@
 //! Lines that a console is handed, and what is shown of its journal, in memory.
-ghost use Rattle.std.specs.Prelude.{◌≡◌, OnOk, OnErr, Unit, false};
-ghost use Rattle.hpx_ports.specs.Faults.{Rose};
+ghost use Rattle.std.specs.Prelude.{Unit, false};
 
 use hpx_journal::entry::Event;
 use hpx_journal::journal::Journal;
@@ -15,6 +14,7 @@ use std::collections::VecDeque;
 /// Lines, one after another, of which one may not be read, and the text that is shown.
 #[derive(Drop)]
 pub struct Script {
+    alloc: Global,
     coming: VecDeque<Text>,
     /// How often a line was asked for.
     asked: u64,
@@ -22,22 +22,20 @@ pub struct Script {
     unread: u64,
     /// How often a line was not read.
     faults: u64,
-    sink: MemSink,
+    pub sink: MemSink,
 }
 
-/// Writes what a journal prints behind a cut.
-fn write_prints(sink: &mut MemSink, journal: &Journal, cut: u64) -> Result<(), Failed>
-    ensures stands { OnOk result (sink.new.faults ≡ sink.old.faults) }
-    ensures cause { OnErr result (Rose sink.old.faults sink.new.faults) }
-{
+/// What a journal prints behind a cut.
+fn prints(alloc: Global, journal: &Journal, cut: u64) -> Result<Vec<u8>, AllocError> {
+    let mut text = Vec::new(alloc);
     for i in cut..journal.entries() {
         if let Some(entry) = journal.entry(i) {
             if let Event::Print { bytes } = &entry.event {
-                write_all(sink, bytes.as_slice())?;
+                text.extend_from_slice(bytes.as_slice())?;
             }
         }
     }
-    Ok(())
+    Ok(text)
 }
 
 fn texts(alloc: Global, lines: &[&str]) -> Result<VecDeque<Text>, AllocError> {
@@ -58,17 +56,13 @@ impl Script {
     ) -> Result<Script, AllocError> {
         let writes = Lengths::from_vec(Vec::from_slice(alloc, writes)?);
         Ok(Script {
+            alloc,
             coming: texts(alloc, lines)?,
             asked: 0,
             unread,
             faults: 0,
             sink: MemSink::new(alloc, writes),
         })
-    }
-
-    /// What was shown.
-    pub fn text(&self) -> &[u8] {
-        self.sink.bytes()
     }
 }
 
@@ -97,7 +91,10 @@ impl Lines for Script {
     }
 
     fn show(&mut self, journal: &Journal, cut: u64) -> Result<(), LineFault> {
-        match write_prints(&mut self.sink, journal, cut) {
+        let Ok(text) = prints(self.alloc, journal, cut) else {
+            return Err(LineFault::OutOfMemory);
+        };
+        match write_all(&mut self.sink, text.as_slice()) {
             Ok(()) => Ok(()),
             Err(Failed) => Err(LineFault::Write),
         }

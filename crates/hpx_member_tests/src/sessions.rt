@@ -12,10 +12,10 @@ const MOST: usize = 100;
 
 // What both come to.
 fn session<R: Wait>(rt: &R, alloc: Global, how: &Session) -> Result<(Ran, Ran), AllocError> {
-    let mut first = console_ran(rt, alloc, how, VecDeque::new(alloc))?;
+    let mut first = console_ran(rt, alloc, how, VecDeque::new(alloc), &NONE)?;
     let mut second = worker_ran(rt, alloc, handed(alloc, 0, first.sent.as_slice())?, &NONE)?;
     for _ in 0..MOST {
-        let next = console_ran(rt, alloc, how, handed(alloc, 1, second.sent.as_slice())?)?;
+        let next = console_ran(rt, alloc, how, handed(alloc, 1, second.sent.as_slice())?, &NONE)?;
         let is_last = next.sent.len() == first.sent.len();
         first = next;
         if is_last {
@@ -49,12 +49,11 @@ fn a_console_and_a_worker_end(rt: HostRuntime) -> Result<(), Fail> {
             localities: 2,
             settles: *settles,
             lines: LINES,
-            faults: NONE,
         };
         let (first, second) = session(&rt, rt.alloc(), &how)?;
         assert_eq!(rt; (first.status, second.status), (0, 0));
         assert_eq!(rt; (first.entries, second.entries), (29, 16));
-        assert!(rt; first.text.as_slice() == b"5\n");
+        assert!(rt; first.text.as_slice() == b"5\n".as_slice());
         let sent = said(rt.alloc(), first.sent.as_slice())?;
         assert!(rt; sent.as_slice() == asked.as_bytes());
         let sent = said(rt.alloc(), second.sent.as_slice())?;
