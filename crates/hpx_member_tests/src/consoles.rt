@@ -112,7 +112,11 @@ const SHOWN: [Shown; 11] = [
 fn a_console_alone_shows_what_is_printed(rt: HostRuntime) -> Result<(), Fail> {
     for (i, (how, faults, status, entries, text)) in SHOWN.iter().enumerate() {
         let ran = console_ran(&rt, rt.alloc(), how, VecDeque::new(rt.alloc()), faults)?;
-        assert_eq!(rt; (ran.status, ran.odd, ran.entries), (*status, Odd::Nothing, *entries), "row {i}");
+        assert_eq!(rt;
+            (ran.status, ran.odd, ran.entries),
+            (*status, Odd::Nothing, *entries),
+            "row {i}"
+        );
         assert!(rt; ran.text.as_slice() == text.as_bytes(), "row {i}");
         assert!(rt; ran.sent.is_empty(), "row {i}");
     }
@@ -153,7 +157,12 @@ const LATER: &[Body] = &[
 ];
 
 /// How it is run, what comes, and which calls fail; the status then, what was not accepted, how many entries are written, and what is sent.
-type Row = (Session, &'static [Body], Faults, (u8, Odd, u64, &'static str));
+type Row = (
+    Session,
+    &'static [Body],
+    Faults,
+    (u8, Odd, u64, &'static str),
+);
 
 // A console without lines asks the others at once.
 const ROWS: [Row; 24] = [
@@ -163,14 +172,34 @@ const ROWS: [Row; 24] = [
     // the link fails
     (THREE, &[], NONE, (4, Odd::Nothing, 0, ASKED)),
     (THREE, &[(2, FIRST)], NONE, (4, Odd::Nothing, 0, ASKED)),
-    (THREE, &[(1, FIRST), (2, FIRST), (1, SECOND)], NONE, (4, Odd::Nothing, 0, ASKED_TWICE)),
+    (
+        THREE,
+        &[(1, FIRST), (2, FIRST), (1, SECOND)],
+        NONE,
+        (4, Odd::Nothing, 0, ASKED_TWICE),
+    ),
     (THREE, AGREED, ONE_RECEIVE, (4, Odd::Nothing, 0, ASKED)),
-    (THREE, AGREED, ONE_SEND, (4, Odd::Nothing, 0, "1 f000000000\n")),
+    (
+        THREE,
+        AGREED,
+        ONE_SEND,
+        (4, Odd::Nothing, 0, "1 f000000000\n"),
+    ),
     (THREE, AGREED, FIVE_SENDS, (4, Odd::Nothing, 0, HALF_ENDED)),
     (ASKING, &[], NONE, (4, Odd::Nothing, 5, "1 01\n")),
     // no parcel, and a parcel that breaks a rule: an object is freed that never was
-    (THREE, &[(2, "f4 00000000")], NONE, (7, Odd::BadFrame(2, 0, Why::Kind), 0, ASKED)),
-    (THREE, &[(1, FIRST), (1, "0102 00")], NONE, (7, Odd::BadFrame(1, 3, Why::Cut), 0, ASKED)),
+    (
+        THREE,
+        &[(2, "f4 00000000")],
+        NONE,
+        (7, Odd::BadFrame(2, 0, Why::Kind), 0, ASKED),
+    ),
+    (
+        THREE,
+        &[(1, FIRST), (1, "0102 00")],
+        NONE,
+        (7, Odd::BadFrame(1, 3, Why::Cut), 0, ASKED),
+    ),
     (
         THREE,
         &[(1, "010a 0000000200000021 0000000000000001")],
@@ -179,23 +208,68 @@ const ROWS: [Row; 24] = [
     ),
     // words that no console is told
     (THREE, &[(1, "f2")], NONE, (8, Odd::OutOfPlace(1), 0, ASKED)),
-    (THREE, &[(2, "f0 00000000")], NONE, (8, Odd::OutOfPlace(2), 0, ASKED)),
-    (THREE, &[(1, "f3 0003 0001")], NONE, (8, Odd::OutOfPlace(1), 0, ASKED)),
+    (
+        THREE,
+        &[(2, "f0 00000000")],
+        NONE,
+        (8, Odd::OutOfPlace(2), 0, ASKED),
+    ),
+    (
+        THREE,
+        &[(1, "f3 0003 0001")],
+        NONE,
+        (8, Odd::OutOfPlace(1), 0, ASKED),
+    ),
     // Counts of another length, of another wave, given twice, and of no worker
-    (THREE, &[(1, "f1 00000000")], NONE, (8, Odd::OutOfPlace(1), 0, ASKED)),
+    (
+        THREE,
+        &[(1, "f1 00000000")],
+        NONE,
+        (8, Odd::OutOfPlace(1), 0, ASKED),
+    ),
     (
         THREE,
         &[(1, "f1 00000000 0000000000000000 0000000000000000 00")],
         NONE,
         (8, Odd::OutOfPlace(1), 0, ASKED),
     ),
-    (THREE, &[(1, SECOND)], NONE, (8, Odd::OutOfPlace(1), 0, ASKED)),
-    (THREE, &[(1, FIRST), (2, FIRST), (1, FIRST)], NONE, (8, Odd::OutOfPlace(1), 0, ASKED_TWICE)),
-    (THREE, &[(2, FIRST), (2, FIRST)], NONE, (8, Odd::OutOfPlace(2), 0, ASKED)),
-    (THREE, &[(0, FIRST)], NONE, (8, Odd::OutOfPlace(0), 0, ASKED)),
-    (THREE, &[(3, FIRST)], NONE, (8, Odd::OutOfPlace(3), 0, ASKED)),
+    (
+        THREE,
+        &[(1, SECOND)],
+        NONE,
+        (8, Odd::OutOfPlace(1), 0, ASKED),
+    ),
+    (
+        THREE,
+        &[(1, FIRST), (2, FIRST), (1, FIRST)],
+        NONE,
+        (8, Odd::OutOfPlace(1), 0, ASKED_TWICE),
+    ),
+    (
+        THREE,
+        &[(2, FIRST), (2, FIRST)],
+        NONE,
+        (8, Odd::OutOfPlace(2), 0, ASKED),
+    ),
+    (
+        THREE,
+        &[(0, FIRST)],
+        NONE,
+        (8, Odd::OutOfPlace(0), 0, ASKED),
+    ),
+    (
+        THREE,
+        &[(3, FIRST)],
+        NONE,
+        (8, Odd::OutOfPlace(3), 0, ASKED),
+    ),
     // an answer is awaited, and no wave waits
-    (ASKING, &[(1, FIRST)], NONE, (8, Odd::OutOfPlace(1), 5, "1 01\n")),
+    (
+        ASKING,
+        &[(1, FIRST)],
+        NONE,
+        (8, Odd::OutOfPlace(1), 5, "1 01\n"),
+    ),
 ];
 
 #[test]

@@ -172,7 +172,11 @@ pub fn assert_is(
     want: (u8, Odd, u64, &'static str),
 ) {
     let (status, odd, entries, said) = want;
-    assert_eq!(rt; (ran.status, ran.odd, ran.entries), (status, odd, entries), "row {i}");
+    assert_eq!(rt;
+        (ran.status, ran.odd, ran.entries),
+        (status, odd, entries),
+        "row {i}"
+    );
     assert!(rt; sent == said.as_bytes(), "row {i}");
     assert!(rt; ran.text.is_empty(), "row {i}");
 }

@@ -15,7 +15,13 @@ fn session<R: Wait>(rt: &R, alloc: Global, how: &Session) -> Result<(Ran, Ran), 
     let mut first = console_ran(rt, alloc, how, VecDeque::new(alloc), &NONE)?;
     let mut second = worker_ran(rt, alloc, handed(alloc, 0, first.sent.as_slice())?, &NONE)?;
     for _ in 0..MOST {
-        let next = console_ran(rt, alloc, how, handed(alloc, 1, second.sent.as_slice())?, &NONE)?;
+        let next = console_ran(
+            rt,
+            alloc,
+            how,
+            handed(alloc, 1, second.sent.as_slice())?,
+            &NONE,
+        )?;
         let is_last = next.sent.len() == first.sent.len();
         first = next;
         if is_last {

@@ -47,25 +47,40 @@ type Row = (&'static [Body], Faults, (u8, Odd, u64, &'static str));
 // Counted by hand. KEEP: In, Fire, Done, Sent and Out. FIND: In, Fire, Asked and Out; and where credit was given: In, Given, Split, Done,
 // Sent and Out.
 const ROWS: [Row; 29] = [
-    (&[END], NONE, (0, Odd::Nothing, 0, ""),),
-    (&[END, KEEP], NONE, (0, Odd::Nothing, 0, ""),),
-    (&[KEEP, END], NONE, (0, Odd::Nothing, 5, "0 01\n"),),
+    (&[END], NONE, (0, Odd::Nothing, 0, "")),
+    (&[END, KEEP], NONE, (0, Odd::Nothing, 0, "")),
+    (&[KEEP, END], NONE, (0, Odd::Nothing, 5, "0 01\n")),
     // each wave is answered before the next is heard of
     (
         &[WAVE_8, WAVE_7, END],
         NONE,
-        (0, Odd::Nothing, 0, "0 f10000000800000000000000000000000000000000\n0 f10000000700000000000000000000000000000000\n"),
+        (
+            0,
+            Odd::Nothing,
+            0,
+            "0 f10000000800000000000000000000000000000000\n0 f10000000700000000000000000000000000000000\n",
+        ),
     ),
     (
         &[WAVE_7, KEEP, WAVE_8, END],
         NONE,
-        (0, Odd::Nothing, 5, "0 f10000000700000000000000000000000000000000\n0 01\n0 f10000000800000000000000010000000000000001\n"),
+        (
+            0,
+            Odd::Nothing,
+            5,
+            "0 f10000000700000000000000000000000000000000\n0 01\n0 f10000000800000000000000010000000000000001\n",
+        ),
     ),
     // two wait until a commit has its credit
     (
         &[KEEP, FIND, WAVE_7, WAVE_8, GIVE, END],
         NONE,
-        (0, Odd::Nothing, 15, "0 01\n0 01\n0 01\n0 f10000000700000000000000030000000000000003\n0 f10000000800000000000000030000000000000003\n"),
+        (
+            0,
+            Odd::Nothing,
+            15,
+            "0 01\n0 01\n0 01\n0 f10000000700000000000000030000000000000003\n0 f10000000800000000000000030000000000000003\n",
+        ),
     ),
     (
         &[KEEP, FIND, WAVE_7, END],
@@ -73,11 +88,11 @@ const ROWS: [Row; 29] = [
         (0, Odd::Nothing, 9, "0 01\n0 01\n"),
     ),
     // the link fails
-    (&[], NONE, (4, Odd::Nothing, 0, ""),),
-    (&[END], NO_RECEIVES, (4, Odd::Nothing, 0, ""),),
-    (&[KEEP, END], ONE_RECEIVE, (4, Odd::Nothing, 5, "0 01\n"),),
-    (&[KEEP, END], NO_SENDS, (4, Odd::Nothing, 4, ""),),
-    (&[WAVE_7, END], NO_SENDS, (4, Odd::Nothing, 0, ""),),
+    (&[], NONE, (4, Odd::Nothing, 0, "")),
+    (&[END], NO_RECEIVES, (4, Odd::Nothing, 0, "")),
+    (&[KEEP, END], ONE_RECEIVE, (4, Odd::Nothing, 5, "0 01\n")),
+    (&[KEEP, END], NO_SENDS, (4, Odd::Nothing, 4, "")),
+    (&[WAVE_7, END], NO_SENDS, (4, Odd::Nothing, 0, "")),
     // no parcel
     (
         &[(0, ""), END],
@@ -118,23 +133,27 @@ const ROWS: [Row; 29] = [
     (
         &[KEEP, GIVE, END],
         NONE,
-        (8, Odd::Strange(0, 3, 0), 5, "0 01\n"),
+        (8, Odd::Strange(0, 3, 1), 5, "0 01\n"),
     ),
     // words out of place: of another length, of one that is not the console, and those that no worker is told
-    (&[(0, "f0 000007"), END], NONE, (8, Odd::OutOfPlace(0), 0, ""),),
+    (
+        &[(0, "f0 000007"), END],
+        NONE,
+        (8, Odd::OutOfPlace(0), 0, ""),
+    ),
     (
         &[(0, "f0 0000000700"), END],
         NONE,
         (8, Odd::OutOfPlace(0), 0, ""),
     ),
-    (&[(0, "f2 00"), END], NONE, (8, Odd::OutOfPlace(0), 0, ""),),
-    (&[(2, "f2"), END], NONE, (8, Odd::OutOfPlace(2), 0, ""),),
+    (&[(0, "f2 00"), END], NONE, (8, Odd::OutOfPlace(0), 0, "")),
+    (&[(2, "f2"), END], NONE, (8, Odd::OutOfPlace(2), 0, "")),
     (
         &[(2, "f0 00000007"), END],
         NONE,
         (8, Odd::OutOfPlace(2), 0, ""),
     ),
-    (&[(1, "f2"), END], NONE, (8, Odd::OutOfPlace(1), 0, ""),),
+    (&[(1, "f2"), END], NONE, (8, Odd::OutOfPlace(1), 0, "")),
     (
         &[(0, "f1 00000007 0000000000000000 0000000000000000"), END],
         NONE,
