@@ -81,18 +81,18 @@ fn odd_of(fault: Option<MemberFault>) -> Odd {
     }
 }
 
-/// What an end leaves, beside a text.
+/// What an end leaves, and what was shown.
 fn leaves(
     alloc: Global,
     end: &MemberEnd<AllActs, MemLink>,
-    text: Vec<u8>,
+    text: &[u8],
 ) -> Result<Ran, AllocError> {
     Ok(Ran {
         status: end.status,
         entries: end.journal.entries(),
         odd: odd_of(end.fault),
         sent: sent(alloc, end.link.trace())?,
-        text,
+        text: Vec::from_slice(alloc, text)?,
     })
 }
 
@@ -119,7 +119,7 @@ pub fn worker_ran<R: Wait>(
     let sends = calls(alloc, faults.sends)?;
     let receives = calls(alloc, faults.receives)?;
     let end = worker_end(rt, alloc, coming, sends, receives);
-    leaves(alloc, &end, Vec::new(alloc))
+    leaves(alloc, &end, &[])
 }
 
 /// How a console is run: at how many localities, whether a round is to end before each line but the first, and its lines.
@@ -159,8 +159,7 @@ pub fn console_ran<R: Wait>(
     let sends = calls(alloc, faults.sends)?;
     let receives = calls(alloc, faults.receives)?;
     let end = console_end(rt, alloc, session, coming, sends, receives, &mut script);
-    let text = Vec::from_slice(alloc, script.sink.bytes())?;
-    leaves(alloc, &end, text)
+    leaves(alloc, &end, script.sink.bytes())
 }
 
 /// A member came to this status, and did not accept this, wrote so many entries, sent this, and showed nothing.
