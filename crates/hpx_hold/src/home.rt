@@ -4,6 +4,7 @@ ghost use Rattle.hpx_journal.specs.Whole.{IsCarried, replayed};
 ghost use Rattle.hpx_world.specs.Places.{rules_in};
 ghost use Rattle.hpx_world.specs.Sound.{IsSound};
 ghost use Rattle.hpx_world.specs.Away.{IsCarrying};
+ghost use Rattle.hpx_world.specs.Heard.{HearsEnd, KeepsLatest};
 ghost use Rattle.hpx_world.specs.Quiet.{IsStuck, NoneRuns};
 ghost use Rattle.hpx_world.specs.Stages.{stage};
 ghost use Rattle.hpx_world.specs.Steps.{IsUnfed, DidWork};
@@ -44,6 +45,8 @@ fn work_at_home<A: Acts + Copy, F: Fabric>(
     ensures home { GrowsAtHome world.old.journal.entries world.new.journal.entries }
     ensures unfed { IsUnfed world.old.journal.entries world.new.journal.entries }
     ensures jobs { HandsNoJob result → NoneRuns world.old.nodes → NoneRuns world.new.nodes }
+    ensures hears { KeepsLatest world.old.hand (F.latest fabric.old) world.new.hand (F.latest fabric.new) }
+    ensures finds { IfErr result (λ fault. HearsEnd fault (F.latest fabric.new)) }
     ensures carrying { let r = rules_in A.act_of world.old in
         IsCarrying r world.old.hand (F.flight fabric.old) (F.trace fabric.old) world.old.journal.entries
         → IsCarrying r world.new.hand (F.flight fabric.new) (F.trace fabric.new) world.new.journal.entries }
@@ -78,6 +81,8 @@ fn turn_at_home<A: Acts + Copy, F: Fabric>(
     ensures home { GrowsAtHome world.old.journal.entries world.new.journal.entries }
     ensures unfed { IsUnfed world.old.journal.entries world.new.journal.entries }
     ensures jobs { HandsNoJob result → NoneRuns world.old.nodes → NoneRuns world.new.nodes }
+    ensures hears { KeepsLatest world.old.hand (F.latest fabric.old) world.new.hand (F.latest fabric.new) }
+    ensures finds { IfErr result (λ fault. HearsEnd fault (F.latest fabric.new)) }
     ensures carrying { let r = rules_in A.act_of world.old in
         IsCarrying r world.old.hand (F.flight fabric.old) (F.trace fabric.old) world.old.journal.entries
         → IsCarrying r world.new.hand (F.flight fabric.new) (F.trace fabric.new) world.new.journal.entries }
@@ -111,6 +116,8 @@ pub fn stay_home<A: Acts + Copy, F: Fabric>(
         RefusedAtHome fault last (stage world.new (F.flight fabric.new) (F.trace fabric.new)))) }
     ensures unfed { IsUnfed world.old.journal.entries world.new.journal.entries }
     ensures jobs { HandsNoJob result → NoneRuns world.old.nodes → NoneRuns world.new.nodes }
+    ensures hears { KeepsLatest world.old.hand (F.latest fabric.old) world.new.hand (F.latest fabric.new) }
+    ensures finds { IfErr result (λ fault. HearsEnd fault (F.latest fabric.new)) }
     ensures carrying { let r = rules_in A.act_of world.old in
         IsCarrying r world.old.hand (F.flight fabric.old) (F.trace fabric.old) world.old.journal.entries
         → IsCarrying r world.new.hand (F.flight fabric.new) (F.trace fabric.new) world.new.journal.entries }

@@ -3,6 +3,7 @@ ghost use Rattle.std.specs.Prelude.{◌≡◌, ◌<◌, [], length, IfOk, IfErr}
 ghost use Rattle.hpx_journal.specs.Whole.{IsCarried};
 ghost use Rattle.hpx_world.specs.Places.{rules_in};
 ghost use Rattle.hpx_world.specs.Away.{IsCarrying};
+ghost use Rattle.hpx_world.specs.Heard.{HearsEnd, KeepsLatest};
 ghost use Rattle.hpx_world.specs.Quiet.{IsQuiet, NoneRuns};
 ghost use Rattle.hpx_world.specs.Stages.{stage};
 ghost use Rattle.hpx_world.specs.Steps.{IsUnfed};
@@ -37,6 +38,8 @@ pub fn turns<A: Acts + Copy, F: Fabric>(
     ensures faults { CountsFaults result (F.faults fabric.old) (F.faults fabric.new) }
     ensures unfed { IsUnfed world.old.journal.entries world.new.journal.entries }
     ensures jobs { HandsNoJob result → NoneRuns world.old.nodes → NoneRuns world.new.nodes }
+    ensures hears { KeepsLatest world.old.hand (F.latest fabric.old) world.new.hand (F.latest fabric.new) }
+    ensures finds { IfErr result (λ fault. HearsEnd fault (F.latest fabric.new)) }
     ensures carrying { let r = rules_in A.act_of world.old in
         IsCarrying r world.old.hand (F.flight fabric.old) (F.trace fabric.old) world.old.journal.entries
         → IsCarrying r world.new.hand (F.flight fabric.new) (F.trace fabric.new) world.new.journal.entries }

@@ -1,6 +1,7 @@
 ghost use Rattle.std.specs.Prelude.{◌≡◌, ◌≢◌, ◌⊎◌, [], Some, None, IfSome, ℕ, codes};
 ghost use Rattle.std.specs.Process.{exit_status};
 ghost use Rattle.hpx_options.specs.Texts.{bad_word_text};
+ghost use Rattle.hpx_world.specs.Heard.{IsLatest};
 ghost use Rattle.hpx_top.specs.Breaches.{TellsBreach};
 ghost use Rattle.hpx_top.specs.Printed.{HasTold};
 ghost use Rattle.hpx_top.specs.Runs.{ports_of, HasCause, NothingFailed, Says};
@@ -71,7 +72,8 @@ pub fn program<W: Words, S: Source, K: Sink, E: Sink, F: Fabric, R: Threads + Wa
         (record { text = E.held err.new; faults = E.faults err.new }) }
     ensures silent { result.status ≡ 0 → err.new ≡ err.old }
     ensures no_other { F.flight fabric ≡ Some [] → F.trace fabric ≡ Some [] → IsStatus result.status }
-    ensures fault { TellsBreach result.status result.fault result.world }
+    ensures fault { TellsBreach result.status result.fault result.world (F.latest result.fabric) }
+    ensures hears { IfSome result.world (λ w. IsLatest w.hand (F.latest result.fabric)) }
     ensures none { result.world ≡ None → (source.new ≡ source.old) × (result.fabric ≡ fabric) }
     ensures uncut { result.world ≡ None → result.cuts.items ≡ [] }
     ensures untouched { (words : _) → W.words given.now ≡ Some words → notice_in words ≡ None → result.world ≡ None →

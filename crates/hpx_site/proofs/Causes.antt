@@ -9,6 +9,7 @@ use Rattle.hpx_world.specs.declared.turns.WorldFault.{WorldFault}
 use Rattle.hpx_world.specs.declared.turns.WorldFault.TheVariants as faults
 use Rattle.hpx_world.specs.declared.turns.Choice.{Choice}
 use Rattle.hpx_world.specs.declared.turns.Choice.TheVariants as choices
+use Rattle.hpx_world.specs.Heard.{HearsEnd}
 use Rattle.hpx_world.specs.Quiet.{IsQuiet}
 use Rattle.hpx_world.specs.Refusals.{Stays, StaysAll, IsFull, Refused, RefusedBy, RefusedDesk, RefusedDrain, RefusedFire, RefusedFeed, RefusedFinish, RefusedPump, RefusedTake, CountsFaults, FeedsNoLine, LacksMemory}
 use Rattle.hpx_world.specs.Sound.{Meaning}
@@ -41,10 +42,10 @@ none_some x e = cc
 
 module _ {A : Type 0} {g : Ghosts A} (x z : Seen) where
   -- a turn
-  pub turn_cause : (c : Choice A g) → FeedsNoLine c → (f : WorldFault A g) → Refused c f (stage_of x) (stage_of z) → CountsFaults {T = ℕ} (Err f) x.faults z.faults → IsCause x z f
-  turn_cause c fed faults.Fabric h counts = counts
-  turn_cause c fed (faults.JournalFull e w job_back) h counts = still_full (stage_of x) (stage_of z) e w h.0 h.1
-  turn_cause c fed (faults.BadFrame to place why) h counts = each c h.1
+  pub turn_cause : (c : Choice A g) → FeedsNoLine c → (f : WorldFault A g) → Refused c f (stage_of x) (stage_of z) → CountsFaults {T = ℕ} (Err f) x.faults z.faults → HearsEnd f z.latest → IsCause x z f
+  turn_cause c fed faults.Fabric h counts heard = counts
+  turn_cause c fed (faults.JournalFull e w job_back) h counts heard = still_full (stage_of x) (stage_of z) e w h.0 h.1
+  turn_cause c fed (faults.BadFrame to place why) h counts heard = each c h.1
     where
       each : (c : Choice A g) → RefusedBy c (faults.BadFrame to place why) (stage_of x) (stage_of z) → IsCause {A = A} {g = g} x z (faults.BadFrame to place why)
       each choices.Take r = r.1
@@ -53,7 +54,7 @@ module _ {A : Type 0} {g : Ghosts A} (x z : Seen) where
       each (choices.Finish done) r = absurd r
       each (choices.Desk k) r = absurd r
       each (choices.Pump k) r = absurd r
-  turn_cause c fed (faults.Strange to rule object kept) h counts = each c h.1
+  turn_cause c fed (faults.Strange to rule object kept) h counts heard = each c h.1
     where
       each : (c : Choice A g) → RefusedBy c (faults.Strange to rule object kept) (stage_of x) (stage_of z) → IsCause {A = A} {g = g} x z (faults.Strange to rule object kept)
       each choices.Take r = inl r.1
@@ -62,16 +63,16 @@ module _ {A : Type 0} {g : Ghosts A} (x z : Seen) where
       each (choices.Fire k) r = absurd r
       each (choices.Finish done) r = absurd r
       each (choices.Pump k) r = absurd r
-  turn_cause c fed (faults.EarlyEnd s t) h counts = each c h.1
+  turn_cause c fed (faults.EarlyEnd s t) h counts heard = each c h.1
     where
       each : (c : Choice A g) → RefusedBy c (faults.EarlyEnd s t) (stage_of x) (stage_of z) → IsCause {A = A} {g = g} x z (faults.EarlyEnd s t)
-      each choices.Take r = let e = early x z s t r.0 r.2 r.3 r.4 in (r.1, e.0, e.1, e.2)
+      each choices.Take r = let e = early x z s t r.0 r.2 r.3 r.4 in (r.1, e.0, e.1, e.2, heard)
       each (choices.Feed line) r = absurd r
       each (choices.Fire k) r = absurd r
       each (choices.Finish done) r = absurd r
       each (choices.Desk k) r = absurd r
       each (choices.Pump k) r = absurd r
-  turn_cause c fed (faults.OutOfMemory None) h counts = each c fed h.1
+  turn_cause c fed (faults.OutOfMemory None) h counts heard = each c fed h.1
     where
       each : (c : Choice A g) → FeedsNoLine c → RefusedBy c (faults.OutOfMemory None) (stage_of x) (stage_of z) → IsCause {A = A} {g = g} x z (faults.OutOfMemory None)
       each (choices.Fire k) fed r = inl (k, r.2)
@@ -80,7 +81,7 @@ module _ {A : Type 0} {g : Ghosts A} (x z : Seen) where
       each choices.Take fed r = inr (inr (inr r.2))
       each (choices.Finish done) fed r = absurd (none_some done r.1)
       each (choices.Feed line) fed r = absurd fed
-  turn_cause c fed (faults.OutOfMemory (Some d)) h counts = each c fed h.1
+  turn_cause c fed (faults.OutOfMemory (Some d)) h counts heard = each c fed h.1
     where
       each : (c : Choice A g) → FeedsNoLine c → RefusedBy c (faults.OutOfMemory (Some d)) (stage_of x) (stage_of z) → IsCause {A = A} {g = g} x z (faults.OutOfMemory (Some d))
       each (choices.Finish done) fed r = subst (λ (o : Option (Done A g)). IfSome o (λ y. IsOutAt z.world.nodes y.job)) (sym r.1) r.2.1
@@ -89,38 +90,38 @@ module _ {A : Type 0} {g : Ghosts A} (x z : Seen) where
       each (choices.Pump k) fed r = absurd (none_some d (sym r.1))
       each choices.Take fed r = absurd (none_some d (sym r.1))
       each (choices.Feed line) fed r = absurd fed
-  turn_cause c fed (faults.NotRun job) h counts = tt
+  turn_cause c fed (faults.NotRun job) h counts heard = tt
 
   -- steps
-  pub steps_cause : (act_of : Meaning) (f : WorldFault A g) → RefusedDrain act_of f (stage_of x) (stage_of z) → CountsFaults {T = ℕ} (Err f) x.faults z.faults → IsCause x z f
-  steps_cause act_of faults.Fabric h counts = counts
-  steps_cause act_of (faults.JournalFull e w None) h counts = still_full h.last (stage_of z) e w h.thus.0 h.thus.1
-  steps_cause act_of (faults.JournalFull e w (Some done)) h counts = h.thus.2
-  steps_cause act_of (faults.BadFrame to place why) h counts = h.thus.2.1
-  steps_cause act_of (faults.Strange to rule object kept) h counts = each h.last h.thus.1
+  pub steps_cause : (act_of : Meaning) (f : WorldFault A g) → RefusedDrain act_of f (stage_of x) (stage_of z) → CountsFaults {T = ℕ} (Err f) x.faults z.faults → HearsEnd f z.latest → IsCause x z f
+  steps_cause act_of faults.Fabric h counts heard = counts
+  steps_cause act_of (faults.JournalFull e w None) h counts heard = still_full h.last (stage_of z) e w h.thus.0 h.thus.1
+  steps_cause act_of (faults.JournalFull e w (Some done)) h counts heard = h.thus.2
+  steps_cause act_of (faults.BadFrame to place why) h counts heard = h.thus.2.1
+  steps_cause act_of (faults.Strange to rule object kept) h counts heard = each h.last h.thus.1
     where
       each : (last : Stage) → ((NonePumps last × RefusedTake {A = A} {g = g} (faults.Strange to rule object kept) last (stage_of z))
           ⊎ (NoneFires last × AtFirst HasNothingToTend (λ k. RefusedDesk {A = A} {g = g} k (faults.Strange to rule object kept) last (stage_of z)) last.nodes))
           → IsCause {A = A} {g = g} x z (faults.Strange to rule object kept)
       each last (inl t) = inl t.1.1
       each last (inr d) = inr (subst (λ k. IsStrangeMail z.world.nodes k rule object kept) (sym d.1.did.1) d.1.did.2)
-  steps_cause act_of (faults.EarlyEnd s t) h counts = ends h.1
+  steps_cause act_of (faults.EarlyEnd s t) h counts heard = ends h.1
     where
       ends : IsEarly z.world.nodes z.world.hand z.flight s t → IsCause {A = A} {g = g} x z (faults.EarlyEnd s t)
-      ends e = (e.idle.hand, e.sent, e.taken, why e.why)
+      ends e = (e.idle.hand, e.sent, e.taken, why e.why, heard)
         where
           why : ((s ≢ t) ⊎ ((s ≡ t) × IsHeld z.world.nodes z.world.hand z.flight)) → IsQuiet z.world.nodes z.world.hand → ⊥
           why (inl other) = not_quiet z.world.nodes z.world.hand s t e.sent e.taken other
           why (inr held) = held.1.waits
-  steps_cause act_of (faults.OutOfMemory None) h counts = wants h.last h.thus.1.0 h.thus.2
+  steps_cause act_of (faults.OutOfMemory None) h counts heard = wants h.last h.thus.1.0 h.thus.2
     where
       wants : (last : Stage) → Stays last (stage_of z) → LacksMemory last (stage_of z) → WantsMemory z
       wants last same (inl f) = inl (f.0.k, to_fire_same last.nodes z.world.nodes f.0.k same.tables f.0.did)
       wants last same (inr (inl d)) = inr (inl (d.1.k, to_tend_same last.nodes z.world.nodes d.1.k same.tables d.1.did))
       wants last same (inr (inr (inl p))) = inr (inr (inl (p.1.k, to_send_same last.nodes z.world.nodes p.1.k same.tables p.1.did)))
       wants last same (inr (inr (inr t))) = inr (inr (inr t.1))
-  steps_cause act_of (faults.OutOfMemory (Some done)) h counts = let o = h.thus.2.did.out in (o.t, o.there, o.runs)
-  steps_cause act_of (faults.NotRun job) h counts = tt
+  steps_cause act_of (faults.OutOfMemory (Some done)) h counts heard = let o = h.thus.2.did.out in (o.t, o.there, o.runs)
+  steps_cause act_of (faults.NotRun job) h counts heard = tt
 
 -- a turn that is refused for another cause than a full journal leaves the nodes and the journal
 take_stays : {A : Type 0} {g : Ghosts A} (f : WorldFault A g) (x z : Stage) → RefusedTake f x z → Stays x z

@@ -8,6 +8,7 @@ use Rattle.hpx_steps.specs.Rest.{rules_of}
 use Rattle.hpx_world.specs.declared.turns.WorldFault.{WorldFault}
 use Rattle.hpx_world.specs.declared.turns.WorldFault.TheVariants as faults
 use Rattle.hpx_world.specs.Away.{IsCarrying}
+use Rattle.hpx_world.specs.Heard.{HearsDrain, HearsEnd, HearsStep, KeepsLatest}
 use Rattle.hpx_world.specs.Places.{Places, rules_in}
 use Rattle.hpx_world.specs.declared.turns.Choice.{Choice}
 use Rattle.hpx_world.specs.declared.turns.Choice.TheVariants as choices
@@ -59,6 +60,7 @@ pub record Went (act_of : Meaning) (x z : Seen) : Type 0 where
   pub profile : z.world.profile ≡ x.world.profile
   pub unfed : IsUnfed x.world.journal.entries z.world.journal.entries
   pub carrying : Carries act_of x → IsCarrying (rules_in act_of x.world) z.world.hand z.flight z.trace z.world.journal.entries
+  pub hears : KeepsLatest x.world.hand x.latest z.world.hand z.latest
 
 module _ {A : Type 0} {g : Ghosts A} (act_of : Meaning) (was x z : Seen) (stop : Option (WorldFault A g)) (going : is_some stop ≡ false) (h : Held act_of was x stop) (w : Went act_of x z) where
   on : (stop' : Option (WorldFault A g)) → (IsCalm stop' → z.faults ≡ x.faults) → IfSome stop' (IsCause was z) → IfSome stop' (LeavesRoom z) → (Carries act_of x → IfSome stop' (CanCome (rules_in act_of x.world))) → Held act_of was z stop'
@@ -67,6 +69,7 @@ module _ {A : Type 0} {g : Ghosts A} (act_of : Meaning) (was x z : Seen) (stop :
     profile = w.profile ∙ h.profile;
     unfed = unfed_then _ _ _ h.unfed w.unfed;
     carrying = λ c. subst (λ r. IsCarrying r z.world.hand z.flight z.trace z.world.journal.entries) (sym (same_rules act_of z.world x.world w.localities w.profile)) (w.carrying (h.carrying c));
+    hears = λ l. w.hears (h.hears l);
     still = λ q. still q ∙ h.still (calm stop going);
     cause = cause;
     room = room;
@@ -83,14 +86,14 @@ module _ {A : Type 0} {g : Ghosts A} (act_of : Meaning) (was x z : Seen) (stop :
   stands_still f counts cause room never = on (Some f) (counts_still f x.faults z.faults counts) (since was x z (h.still (calm stop going)) f cause) room never
 
   -- a turn was refused
-  pub turn_stops : (c : Choice A g) → FeedsNoLine c → (f : WorldFault A g) → Refused c f (stage_of x) (stage_of z) → CountsFaults {T = ℕ} (Err f) x.faults z.faults → (Carries act_of x → CanCome (rules_in act_of x.world) f)
+  pub turn_stops : (c : Choice A g) → FeedsNoLine c → (f : WorldFault A g) → Refused c f (stage_of x) (stage_of z) → CountsFaults {T = ℕ} (Err f) x.faults z.faults → HearsEnd f z.latest → (Carries act_of x → CanCome (rules_in act_of x.world) f)
       → Held act_of was z (Some f)
-  turn_stops c fed f refused counts never = stands_still f counts (turn_cause x z c fed f refused counts) (turn_room z x c f refused) never
+  turn_stops c fed f refused counts heard never = stands_still f counts (turn_cause x z c fed f refused counts heard) (turn_room z x c f refused) never
 
   -- steps were refused
-  pub steps_stop : (f : WorldFault A g) → RefusedDrain act_of f (stage_of x) (stage_of z) → CountsFaults {T = ℕ} (Err f) x.faults z.faults → (Carries act_of x → CanCome (rules_in act_of x.world) f)
+  pub steps_stop : (f : WorldFault A g) → RefusedDrain act_of f (stage_of x) (stage_of z) → CountsFaults {T = ℕ} (Err f) x.faults z.faults → HearsEnd f z.latest → (Carries act_of x → CanCome (rules_in act_of x.world) f)
       → Held act_of was z (Some f)
-  steps_stop f refused counts never = stands_still f counts (steps_cause x z act_of f refused counts) (steps_room z act_of (stage_of x) f refused) never
+  steps_stop f refused counts heard never = stands_still f counts (steps_cause x z act_of f refused counts heard) (steps_room z act_of (stage_of x) f refused) never
 
 -- a site, as it is seen
 pub held_first : {A : Type 0} {g : Ghosts A} (act_of : Meaning) (was x : Seen) → was ≡ x → Held {A = A} {g = g} act_of was x None
@@ -99,6 +102,7 @@ held_first {A} {g} act_of was x e = subst (λ (y : Seen). Held {A = A} {g = g} a
   profile = refl;
   unfed = unfed_none _ _ refl;
   carrying = λ c. c;
+  hears = λ l. l;
   still = λ q. refl;
   cause = tt;
   room = tt;
@@ -107,10 +111,10 @@ held_first {A} {g} act_of was x e = subst (λ (y : Seen). Held {A = A} {g = g} a
 
 -- steps, refused or not, of a site that goes on
 pub drained : {A : Type 0} {g : Ghosts A} (act_of : Meaning) (was x z : Seen) → Held {A = A} {g = g} act_of was x None → Went act_of x z
-    → (r : Result (Unit {0}) (WorldFault A g)) → CountsFaults r x.faults z.faults → IfErr r (λ f. RefusedDrain act_of f (stage_of x) (stage_of z))
+    → (r : Result (Unit {0}) (WorldFault A g)) → CountsFaults r x.faults z.faults → IfErr r (λ f. RefusedDrain act_of f (stage_of x) (stage_of z)) → HearsDrain r z.latest
     → (Carries act_of x → IfErr r (CanCome (rules_in act_of x.world))) → Held act_of was z (result_err r)
-drained act_of was x z h w (Ok u) counts stops never = goes_on act_of was x z None refl h w counts
-drained act_of was x z h w (Err f) counts stops never = steps_stop act_of was x z None refl h w f stops counts never
+drained act_of was x z h w (Ok u) counts stops heard never = goes_on act_of was x z None refl h w counts
+drained act_of was x z h w (Err f) counts stops heard never = steps_stop act_of was x z None refl h w f stops counts heard never
 
 -- where steps end there is room
 pub idle_room : (x z : Stage) → IsIdle x z → HasRoom z.entries
@@ -125,6 +129,7 @@ held_then {A} {g} act_of was x z stop h k = record {
   profile = k.profile ∙ h.profile;
   unfed = unfed_then _ _ _ h.unfed k.unfed;
   carrying = λ c. k.carrying (h.carrying c);
+  hears = λ l. k.hears (h.hears l);
   still = λ q. k.still q ∙ h.still tt;
   cause = cause stop k.cause;
   room = k.room;
@@ -152,10 +157,10 @@ step_refused act_of (faults.NotRun job) x z h = inl (record { last = x; goes = r
 
 -- one step, refused or not, of a site that goes on
 pub stepped : {A : Type 0} {g : Ghosts A} (act_of : Meaning) (was x z : Seen) → Held {A = A} {g = g} act_of was x None → Went act_of x z
-    → (r : Result Bool (WorldFault A g)) → CountsFaults r x.faults z.faults → IfErr r (λ f. RefusedStep f (stage_of x) (stage_of z))
+    → (r : Result Bool (WorldFault A g)) → CountsFaults r x.faults z.faults → IfErr r (λ f. RefusedStep f (stage_of x) (stage_of z)) → HearsStep r z.latest
     → (Carries act_of x → IfErr r (CanCome (rules_in act_of x.world))) → Held act_of was z (result_err r)
-stepped act_of was x z h w (Ok b) counts stops never = goes_on act_of was x z None refl h w counts
-stepped act_of was x z h w (Err f) counts stops never = elim (step_refused act_of f (stage_of x) (stage_of z) stops) [
-  | inl steps ↦ steps_stop act_of was x z None refl h w f steps counts never
-  | inr take ↦ turn_stops act_of was x z None refl h w choices.Take tt f take counts never
+stepped act_of was x z h w (Ok b) counts stops heard never = goes_on act_of was x z None refl h w counts
+stepped act_of was x z h w (Err f) counts stops heard never = elim (step_refused act_of f (stage_of x) (stage_of z) stops) [
+  | inl steps ↦ steps_stop act_of was x z None refl h w f steps counts heard never
+  | inr take ↦ turn_stops act_of was x z None refl h w choices.Take tt f take counts heard never
 ]

@@ -5,10 +5,12 @@ use Rattle.hpx_value.specs.declared.acts.Acts.{Ghosts}
 use Rattle.hpx_value.specs.declared.acts.Job.{Job}
 use Rattle.hpx_journal.specs.Weights.{HasRoom}
 use Rattle.hpx_ports.specs.Faults.{Rose}
+use Rattle.hpx_ports.specs.declared.link.Latest.TheVariants.{Nothing}
 use Rattle.hpx_tables.specs.Jobs.{IsRunning}
 use Rattle.hpx_tables.specs.Tables.{Tables}
 use Rattle.hpx_world.specs.declared.turns.WorldFault.{WorldFault}
 use Rattle.hpx_world.specs.declared.turns.WorldFault.TheVariants as faults
+use Rattle.hpx_world.specs.Heard.{KeepsLatest}
 use Rattle.hpx_world.specs.Places.{rules_in}
 use Rattle.hpx_world.specs.Quiet.{IsQuiet}
 use Rattle.hpx_world.specs.Refusals.{IsFull, CanCome}
@@ -29,7 +31,7 @@ abbrev pub IsOutAt : List Tables → Job → Type 0
 IsOutAt nodes job = (t : Tables) × (slice_get nodes job.at ≡ Some t) × IsRunning t job
 
 -- why a site stands still: the fabric's count rose; the journal has no room; the frame in hand spells no parcel or breaks a rule, or
--- a message to the own locality does; no frame is in hand and the world is not quiet; or there was no memory for what is to be done, or to
+-- a message to the own locality does; no frame is in hand, that none is left was the last answer, and the world is not quiet; or there was no memory for what is to be done, or to
 -- commit a job that is out
 abbrev pub IsCause : {A : Type 0} {g : Ghosts A} → Seen → Seen → WorldFault A g → Type 0
 IsCause was is faults.Fabric = Rose was.faults is.faults
@@ -39,7 +41,7 @@ IsCause was is (faults.Strange to rule object kept) =
     HoldsStrangeFrame is.world.nodes is.world.hand to rule object kept ⊎ IsStrangeMail is.world.nodes to rule object kept
 IsCause was is (faults.EarlyEnd sent taken) =
     (is.world.hand ≡ None) × (sent ≡ sum_by (λ t. t.sent) is.world.nodes) × (taken ≡ sum_by (λ t. t.taken) is.world.nodes)
-    × (IsQuiet is.world.nodes is.world.hand → ⊥)
+    × (IsQuiet is.world.nodes is.world.hand → ⊥) × (is.latest ≡ Nothing)
 IsCause was is (faults.OutOfMemory None) = WantsMemory is
 IsCause was is (faults.OutOfMemory (Some done)) = IsOutAt is.world.nodes done.job
 IsCause was is (faults.NotRun job) = Unit {0}
@@ -62,13 +64,14 @@ IsCalm (Some faults.Fabric) = ⊥
 IsCalm _ = Unit {0}
 
 -- a site since it was seen so: its localities and its profile are the same, and its journal has grown by no line; where the fabric
--- carried for the journal, it does; the fabric's count of faults is the same, unless the fabric is why the site stands still; and a
+-- carried for the journal, it does; where the frame in hand was the fabric's last answer, it is; the fabric's count of faults is the same, unless the fabric is why the site stands still; and a
 -- fault that is why it stands still has its cause and leaves room, and on a fabric that carried is none that cannot come
 pub record Held {A : Type 0} {g : Ghosts A} (act_of : Meaning) (was is : Seen) (stop : Option (WorldFault A g)) : Type 0 where
   pub localities : length is.world.nodes ≡ length was.world.nodes
   pub profile : is.world.profile ≡ was.world.profile
   pub unfed : IsUnfed was.world.journal.entries is.world.journal.entries
   pub carrying : Carries act_of was → Carries act_of is
+  pub hears : KeepsLatest was.world.hand was.latest is.world.hand is.latest
   pub still : IsCalm stop → is.faults ≡ was.faults
   pub cause : IfSome stop (IsCause was is)
   pub room : IfSome stop (LeavesRoom is)

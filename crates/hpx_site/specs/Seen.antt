@@ -2,6 +2,8 @@
 use Rattle.std.specs.Prelude.{ℕ, List, [], Option, None}
 use Rattle.hpx_journal.specs.Entries.{Frame}
 use Rattle.hpx_ports.specs.declared.fabric.Wire.{Wire}
+use Rattle.hpx_ports.specs.declared.link.Latest.{Latest}
+use Rattle.hpx_ports.specs.declared.link.Latest.TheVariants.{Never}
 use Rattle.hpx_world.specs.Away.{IsCarrying}
 use Rattle.hpx_world.specs.Places.{Places, rules_in}
 use Rattle.hpx_world.specs.Sound.{Meaning}
@@ -12,10 +14,11 @@ pub record Seen : Type 0 where
   pub flight : Option (List Frame)
   pub trace : Option (List Wire)
   pub faults : ℕ
+  pub latest : Latest
 
--- of a world, over a fabric that tells this and has failed so often
-abbrev pub seen : Places → Option (List Frame) → Option (List Wire) → ℕ → Seen
-seen w flight trace faults = record { world = w; flight = flight; trace = trace; faults = faults }
+-- of a world, over a fabric that tells this, has failed so often, and answered this last
+abbrev pub seen : Places → Option (List Frame) → Option (List Wire) → ℕ → Latest → Seen
+seen w flight trace faults latest = record { world = w; flight = flight; trace = trace; faults = faults; latest = latest }
 
 abbrev pub stage_of : Seen → Stage
 stage_of s = stage s.world s.flight s.trace
@@ -36,4 +39,5 @@ nowhere = record {
   flight = None;
   trace = None;
   faults = 0;
+  latest = Never;
 }

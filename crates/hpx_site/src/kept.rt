@@ -58,7 +58,7 @@ impl<'b, 'w, 'f, A: Acts + Copy, F: Fabric, E: Past> Model for Kept<'b, 'w, 'f, 
     ghost view = { λ k. tt };
 
     ghost invariant = { λ k. (k.lent.ghost_name ≡ E.lent) × (k.lent.now.world.ghost_name ≡ E.world) × (k.lent.now.fabric.ghost_name ≡ E.fabric)
-        × Held A.act_of E.was (seen k.lent.now.world.now (F.flight k.lent.now.fabric.now) (F.trace k.lent.now.fabric.now) (F.faults k.lent.now.fabric.now)) k.stop };
+        × Held A.act_of E.was (seen k.lent.now.world.now (F.flight k.lent.now.fabric.now) (F.trace k.lent.now.fabric.now) (F.faults k.lent.now.fabric.now) (F.latest k.lent.now.fabric.now)) k.stop };
 }
 
 /// Whether this may be asked of so many localities, where workers ask it.
@@ -96,7 +96,7 @@ impl<'b, 'w, 'f, A: Acts + Copy, F: Fabric, E: Past> Kept<'b, 'w, 'f, A, F, E> {
         ensures lent { result.ghost_name ≡ E.lent }
         ensures world { result.now.world.ghost_name ≡ E.world }
         ensures fabric { result.now.fabric.ghost_name ≡ E.fabric }
-        ensures held { Held A.act_of E.was (seen result.now.world.now (F.flight result.now.fabric.now) (F.trace result.now.fabric.now) (F.faults result.now.fabric.now)) stop.new }
+        ensures held { Held A.act_of E.was (seen result.now.world.now (F.flight result.now.fabric.now) (F.trace result.now.fabric.now) (F.faults result.now.fabric.now) (F.latest result.now.fabric.now)) stop.new }
     {
         let Kept {
             lent,

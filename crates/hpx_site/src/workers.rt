@@ -248,7 +248,7 @@ fn work_on<
     ensures lent { result.ghost_name ≡ E.lent }
     ensures world { result.now.world.ghost_name ≡ E.world }
     ensures fabric { result.now.fabric.ghost_name ≡ E.fabric }
-    ensures held { Held A.act_of E.was (seen result.now.world.now (F.flight result.now.fabric.now) (F.trace result.now.fabric.now) (F.faults result.now.fabric.now)) stop.new }
+    ensures held { Held A.act_of E.was (seen result.now.world.now (F.flight result.now.fabric.now) (F.trace result.now.fabric.now) (F.faults result.now.fabric.now) (F.latest result.now.fabric.now)) stop.new }
 {
     let acts = *lent.world.acts();
     let lock = Mutex::new(Kept::<A, F, E>::new(lent));
@@ -277,8 +277,8 @@ fn work_in<A: Acts + Copy + Send + Sync, F: Fabric, G: Gate, R: Threads + Wait +
     gate: &G,
 ) -> Option<WorldFault<A>>
     requires threads { (0 < threads) × (threads ≤ 64) }
-    ensures held { Held A.act_of (seen world.old (F.flight fabric.old) (F.trace fabric.old) (F.faults fabric.old))
-        (seen world.new (F.flight fabric.new) (F.trace fabric.new) (F.faults fabric.new)) result }
+    ensures held { Held A.act_of (seen world.old (F.flight fabric.old) (F.trace fabric.old) (F.faults fabric.old) (F.latest fabric.old))
+        (seen world.new (F.flight fabric.new) (F.trace fabric.new) (F.faults fabric.new) (F.latest fabric.new)) result }
 {
     let Ok(all) = hands(alloc, threads) else {
         return None;
@@ -296,8 +296,8 @@ fn step_alone<A: Acts + Copy, F: Fabric>(
     world: &mut World<A>,
     fabric: &mut F,
 ) -> Result<bool, WorldFault<A>>
-    ensures held { Held A.act_of (seen world.old (F.flight fabric.old) (F.trace fabric.old) (F.faults fabric.old))
-        (seen world.new (F.flight fabric.new) (F.trace fabric.new) (F.faults fabric.new)) (result_err result) }
+    ensures held { Held A.act_of (seen world.old (F.flight fabric.old) (F.trace fabric.old) (F.faults fabric.old) (F.latest fabric.old))
+        (seen world.new (F.flight fabric.new) (F.trace fabric.new) (F.faults fabric.new) (F.latest fabric.new)) (result_err result) }
 {
     for _step in 0..ALONE {
         if !world.step(alloc, fabric)? {
@@ -319,8 +319,8 @@ fn work_some<A: Acts + Copy + Send + Sync, F: Fabric, G: Gate, R: Threads + Wait
     gate: &G,
 ) -> Option<WorldFault<A>>
     requires threads { (0 < threads) × (threads ≤ 64) }
-    ensures held { Held A.act_of (seen world.old (F.flight fabric.old) (F.trace fabric.old) (F.faults fabric.old))
-        (seen world.new (F.flight fabric.new) (F.trace fabric.new) (F.faults fabric.new)) result }
+    ensures held { Held A.act_of (seen world.old (F.flight fabric.old) (F.trace fabric.old) (F.faults fabric.old) (F.latest fabric.old))
+        (seen world.new (F.flight fabric.new) (F.trace fabric.new) (F.faults fabric.new) (F.latest fabric.new)) result }
 {
     if threads == 1 {
         return None;
@@ -344,8 +344,8 @@ pub fn drain_by<A: Acts + Copy + Send + Sync, F: Fabric, G: Gate, R: Threads + W
     gate: &G,
 ) -> Result<(), WorldFault<A>>
     requires threads { (0 < threads) × (threads ≤ 64) }
-    ensures held { Held A.act_of (seen world.old (F.flight fabric.old) (F.trace fabric.old) (F.faults fabric.old))
-        (seen world.new (F.flight fabric.new) (F.trace fabric.new) (F.faults fabric.new)) (result_err result) }
+    ensures held { Held A.act_of (seen world.old (F.flight fabric.old) (F.trace fabric.old) (F.faults fabric.old) (F.latest fabric.old))
+        (seen world.new (F.flight fabric.new) (F.trace fabric.new) (F.faults fabric.new) (F.latest fabric.new)) (result_err result) }
     ensures room { OnOk result (HasRoom world.new.journal.entries) }
     ensures quiet { OnOk result (NoneRuns world.new.nodes → IsQuiet world.new.nodes world.new.hand) }
 {
@@ -394,10 +394,10 @@ pub fn run_workers<A: Acts + Copy + Send + Sync, F: Fabric, G: Gate, R: Threads 
 ) -> Result<Site<A, F>, Site<A, F>>
     requires threads { (0 < threads) × (threads ≤ 64) }
     requires going { site.stop ≡ None }
-    ensures ok { IfOk result (λ s. Held A.act_of (seen site.world (F.flight site.fabric) (F.trace site.fabric) (F.faults site.fabric))
-        (seen s.world (F.flight s.fabric) (F.trace s.fabric) (F.faults s.fabric)) s.stop) }
-    ensures err { IfErr result (λ s. Held A.act_of (seen site.world (F.flight site.fabric) (F.trace site.fabric) (F.faults site.fabric))
-        (seen s.world (F.flight s.fabric) (F.trace s.fabric) (F.faults s.fabric)) s.stop) }
+    ensures ok { IfOk result (λ s. Held A.act_of (seen site.world (F.flight site.fabric) (F.trace site.fabric) (F.faults site.fabric) (F.latest site.fabric))
+        (seen s.world (F.flight s.fabric) (F.trace s.fabric) (F.faults s.fabric) (F.latest s.fabric)) s.stop) }
+    ensures err { IfErr result (λ s. Held A.act_of (seen site.world (F.flight site.fabric) (F.trace site.fabric) (F.faults site.fabric) (F.latest site.fabric))
+        (seen s.world (F.flight s.fabric) (F.trace s.fabric) (F.faults s.fabric) (F.latest s.fabric)) s.stop) }
     ensures quiet { IfOk result (λ s. IfNone s.stop (IsQuiet s.world.nodes s.world.hand)) }
     ensures told { IfOk result (λ s. IfSome s.stop (λ fault. IsShort fault → ⊥)) }
     ensures short { IfErr result (λ s. IfSome s.stop IsShort) }

@@ -16,6 +16,7 @@ use Rattle.hpx_world.specs.Places.{Places}
 use Rattle.hpx_top.specs.declared.session.SessionFault.{SessionFault}
 use Rattle.hpx_top.specs.declared.session.SessionFault.TheVariants.{Read, Write, Fabric, JournalFull, OutOfMemory, Broken, InputFull}
 use Rattle.hpx_top.specs.declared.breach.Breach.TheVariants.{BadFrame, Strange, EarlyEnd}
+use Rattle.hpx_ports.specs.declared.link.Latest.{Latest}
 use Rattle.hpx_top.specs.Breaches.{breach_after, breach_in, breach_status, IsShownIn, Shows, TellsBreach}
 use Rattle.hpx_top.specs.declared.breach.Breach.{Breach}
 use Rattle.hpx_top.specs.declared.task.Notice.{Notice}
@@ -291,14 +292,14 @@ status_counted (Err f) Q cause = subst (λ g. IsStatus (status_of g)) (sym cause
 })
 
 -- a write that failed is no breach
-pub counted_shown : (r : Result ⊤ SessionFault) (o : Option Places) (Q : Type 0) → IfErr r (λ f. (f ≡ Write) × Q) → IfErr r (λ f. IsShownIn f o)
-counted_shown (Ok t) o Q cause = tt
-counted_shown (Err f) o Q cause = subst (λ g. IsShownIn g o) (sym cause.0) tt
+pub counted_shown : (r : Result ⊤ SessionFault) (o : Option Places) (latest : Latest) (Q : Type 0) → IfErr r (λ f. (f ≡ Write) × Q) → IfErr r (λ f. IsShownIn f o latest)
+counted_shown (Ok t) o latest Q cause = tt
+counted_shown (Err f) o latest Q cause = subst (λ g. IsShownIn g o latest) (sym cause.0) tt
 
-pub told_shown : (r : Result ⊤ SessionFault) (o : Option Places) → IfErr r (λ f. (f ≡ Write) ⊎ (f ≡ OutOfMemory)) → IfErr r (λ f. IsShownIn f o)
-told_shown (Ok t) o only = tt
-told_shown (Err f) o (inl write) = subst (λ g. IsShownIn g o) (sym write) tt
-told_shown (Err f) o (inr memory) = subst (λ g. IsShownIn g o) (sym memory) tt
+pub told_shown : (r : Result ⊤ SessionFault) (o : Option Places) (latest : Latest) → IfErr r (λ f. (f ≡ Write) ⊎ (f ≡ OutOfMemory)) → IfErr r (λ f. IsShownIn f o latest)
+told_shown (Ok t) o latest only = tt
+told_shown (Err f) o latest (inl write) = subst (λ g. IsShownIn g o latest) (sym write) tt
+told_shown (Err f) o latest (inr memory) = subst (λ g. IsShownIn g o latest) (sym memory) tt
 
 -- nothing is run
 told_status : (r : Result ⊤ SessionFault) → IfErr r (λ f. (f ≡ Write) ⊎ (f ≡ OutOfMemory)) → (status_after r ≡ 0) ⊎ (status_after r ≡ 3) ⊎ (status_after r ≡ 6)
@@ -426,21 +427,21 @@ says_nothing x = record { front = nothing_said x.text; whole = λ calm. sym (fol
 -- ---- breaches
 
 -- a run tells a breach exactly where it ends with one
-breach_told : (f : SessionFault) (world : Option Places) → IsShownIn f world → TellsBreach (status_of f) (breach_in f) world
-breach_told Read world h = record { shown = λ b e. absurd (cc); none = λ e. (λ s. absurd (omega (arith, s)), λ s. absurd (omega (arith, s))) }
-breach_told Write world h = record { shown = λ b e. absurd (cc); none = λ e. (λ s. absurd (omega (arith, s)), λ s. absurd (omega (arith, s))) }
-breach_told Fabric world h = record { shown = λ b e. absurd (cc); none = λ e. (λ s. absurd (omega (arith, s)), λ s. absurd (omega (arith, s))) }
-breach_told JournalFull world h = record { shown = λ b e. absurd (cc); none = λ e. (λ s. absurd (omega (arith, s)), λ s. absurd (omega (arith, s))) }
-breach_told OutOfMemory world h = record { shown = λ b e. absurd (cc); none = λ e. (λ s. absurd (omega (arith, s)), λ s. absurd (omega (arith, s))) }
-breach_told InputFull world h = record { shown = λ b e. absurd (cc); none = λ e. (λ s. absurd (omega (arith, s)), λ s. absurd (omega (arith, s))) }
-breach_told (Broken breach) world h = record {
-  shown = λ b e. subst (λ (c : Breach). (breach_status breach ≡ breach_status c) × ((w : Places) × (world ≡ Some w) × Shows c w)) (some_same breach b e) (refl, h);
+breach_told : (f : SessionFault) (world : Option Places) (latest : Latest) → IsShownIn f world latest → TellsBreach (status_of f) (breach_in f) world latest
+breach_told Read world latest h = record { shown = λ b e. absurd (cc); none = λ e. (λ s. absurd (omega (arith, s)), λ s. absurd (omega (arith, s))) }
+breach_told Write world latest h = record { shown = λ b e. absurd (cc); none = λ e. (λ s. absurd (omega (arith, s)), λ s. absurd (omega (arith, s))) }
+breach_told Fabric world latest h = record { shown = λ b e. absurd (cc); none = λ e. (λ s. absurd (omega (arith, s)), λ s. absurd (omega (arith, s))) }
+breach_told JournalFull world latest h = record { shown = λ b e. absurd (cc); none = λ e. (λ s. absurd (omega (arith, s)), λ s. absurd (omega (arith, s))) }
+breach_told OutOfMemory world latest h = record { shown = λ b e. absurd (cc); none = λ e. (λ s. absurd (omega (arith, s)), λ s. absurd (omega (arith, s))) }
+breach_told InputFull world latest h = record { shown = λ b e. absurd (cc); none = λ e. (λ s. absurd (omega (arith, s)), λ s. absurd (omega (arith, s))) }
+breach_told (Broken breach) world latest h = record {
+  shown = λ b e. subst (λ (c : Breach). (breach_status breach ≡ breach_status c) × ((w : Places) × (world ≡ Some w) × Shows c w latest)) (some_same breach b e) (refl, h);
   none = λ e. absurd (cc);
 }
 
-pub no_breach_told : (status : ℕ) (world : Option Places) → status ≢ 7 → status ≢ 8 → TellsBreach status None world
-no_breach_told status world seven eight = record { shown = λ b e. absurd (cc); none = λ e. (seven, eight) }
+pub no_breach_told : (status : ℕ) (world : Option Places) (latest : Latest) → status ≢ 7 → status ≢ 8 → TellsBreach status None world latest
+no_breach_told status world latest seven eight = record { shown = λ b e. absurd (cc); none = λ e. (seven, eight) }
 
-pub breach_by : (r : Result ⊤ SessionFault) (world : Option Places) → IfErr r (λ f. IsShownIn f world) → TellsBreach (status_after r) (breach_after r) world
-breach_by (Ok x) world h = no_breach_told 0 world (omega arith) (omega arith)
-breach_by (Err f) world h = breach_told f world h
+pub breach_by : (r : Result ⊤ SessionFault) (world : Option Places) (latest : Latest) → IfErr r (λ f. IsShownIn f world latest) → TellsBreach (status_after r) (breach_after r) world latest
+breach_by (Ok x) world latest h = no_breach_told 0 world latest (omega arith) (omega arith)
+breach_by (Err f) world latest h = breach_told f world latest h

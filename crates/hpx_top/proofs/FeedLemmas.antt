@@ -37,6 +37,7 @@ use Rattle.hpx_top.specs.declared.consoles.UserConsole.{UserConsole}
 use Rattle.hpx_top.specs.declared.consoles.UserConsole.TheVariants.{Accumulator}
 use Rattle.hpx_top.specs.Texts.{TooLong, Typed, commands, fed_lines, how, is_fed, mark_of, owns}
 use Rattle.hpx_top.specs.declared.breach.Breach.{Breach}
+use Rattle.hpx_ports.specs.declared.link.Latest.{Latest}
 use Rattle.hpx_top.specs.Breaches.{breach_in, IsOfTurn, IsShown, NoBreach, Shows}
 use Rattle.hpx_top.specs.Parts.{Rests}
 use Rattle.hpx_top.specs.declared.session.SessionFault.{SessionFault}
@@ -185,39 +186,39 @@ of_three JournalFull other broken = inr (inl refl)
 of_three OutOfMemory other broken = inr (inr refl)
 
 -- those of a turn, and what shows a breach
-pub of_turn : (f : SessionFault) (w : Places) → (f ≢ Read) × (f ≢ Write) × (f ≢ InputFull) → ((b : Breach) → breach_in f ≡ Some b → Shows b w) → IsOfTurn f w
-of_turn Read w other broken = absurd (other.0 refl)
-of_turn Write w other broken = absurd (other.1 refl)
-of_turn InputFull w other broken = absurd (other.2 refl)
-of_turn (Broken breach) w other broken = broken breach refl
-of_turn Fabric w other broken = tt
-of_turn JournalFull w other broken = tt
-of_turn OutOfMemory w other broken = tt
+pub of_turn : (f : SessionFault) (w : Places) (latest : Latest) → (f ≢ Read) × (f ≢ Write) × (f ≢ InputFull) → ((b : Breach) → breach_in f ≡ Some b → Shows b w latest) → IsOfTurn f w latest
+of_turn Read w latest other broken = absurd (other.0 refl)
+of_turn Write w latest other broken = absurd (other.1 refl)
+of_turn InputFull w latest other broken = absurd (other.2 refl)
+of_turn (Broken breach) w latest other broken = broken breach refl
+of_turn Fabric w latest other broken = tt
+of_turn JournalFull w latest other broken = tt
+of_turn OutOfMemory w latest other broken = tt
 
-pub three_turn : (f : SessionFault) (w : Places) → (f ≡ Fabric) ⊎ (f ≡ JournalFull) ⊎ (f ≡ OutOfMemory) → IsOfTurn f w
-three_turn f w (inl e) = subst (λ g. IsOfTurn g w) (sym e) tt
-three_turn f w (inr (inl e)) = subst (λ g. IsOfTurn g w) (sym e) tt
-three_turn f w (inr (inr e)) = subst (λ g. IsOfTurn g w) (sym e) tt
+pub three_turn : (f : SessionFault) (w : Places) (latest : Latest) → (f ≡ Fabric) ⊎ (f ≡ JournalFull) ⊎ (f ≡ OutOfMemory) → IsOfTurn f w latest
+three_turn f w latest (inl e) = subst (λ g. IsOfTurn g w latest) (sym e) tt
+three_turn f w latest (inr (inl e)) = subst (λ g. IsOfTurn g w latest) (sym e) tt
+three_turn f w latest (inr (inr e)) = subst (λ g. IsOfTurn g w latest) (sym e) tt
 
 pub three_calm : (f : SessionFault) → (f ≡ Fabric) ⊎ (f ≡ JournalFull) ⊎ (f ≡ OutOfMemory) → NoBreach f
 three_calm f (inl e) = subst NoBreach (sym e) tt
 three_calm f (inr (inl e)) = subst NoBreach (sym e) tt
 three_calm f (inr (inr e)) = subst NoBreach (sym e) tt
 
-pub turn_shown : (f : SessionFault) (w : Places) → IsOfTurn f w → IsShown f w
-turn_shown Read w h = tt
-turn_shown Write w h = tt
-turn_shown InputFull w h = tt
-turn_shown (Broken breach) w h = h
-turn_shown Fabric w h = tt
-turn_shown JournalFull w h = tt
-turn_shown OutOfMemory w h = tt
+pub turn_shown : (f : SessionFault) (w : Places) (latest : Latest) → IsOfTurn f w latest → IsShown f w latest
+turn_shown Read w latest h = tt
+turn_shown Write w latest h = tt
+turn_shown InputFull w latest h = tt
+turn_shown (Broken breach) w latest h = h
+turn_shown Fabric w latest h = tt
+turn_shown JournalFull w latest h = tt
+turn_shown OutOfMemory w latest h = tt
 
-pub turn_other : (f : SessionFault) (w : Places) → IsOfTurn f w → (f ≢ Read) × (f ≢ Write) × (f ≢ InputFull)
-turn_other f w h = (
-  λ e. subst (λ g. IsOfTurn g w) e h,
-  λ e. subst (λ g. IsOfTurn g w) e h,
-  λ e. subst (λ g. IsOfTurn g w) e h,
+pub turn_other : (f : SessionFault) (w : Places) (latest : Latest) → IsOfTurn f w latest → (f ≢ Read) × (f ≢ Write) × (f ≢ InputFull)
+turn_other f w latest h = (
+  λ e. subst (λ g. IsOfTurn g w latest) e h,
+  λ e. subst (λ g. IsOfTurn g w latest) e h,
+  λ e. subst (λ g. IsOfTurn g w latest) e h,
 )
 
 pub no_breach : (f : SessionFault) → ((b : Breach) → breach_in f ≡ Some b → ⊥) → NoBreach f
@@ -230,74 +231,74 @@ no_breach JournalFull none = tt
 no_breach OutOfMemory none = tt
 
 -- the same of an answer
-pub answer_shown : {T : Type 0} (r : Result T SessionFault) (w : Places) → IfErr r (λ f. IsOfTurn f w) → IfErr r (λ f. IsShown f w)
-answer_shown (Ok x) w h = tt
-answer_shown (Err f) w h = turn_shown f w h
+pub answer_shown : {T : Type 0} (r : Result T SessionFault) (w : Places) (latest : Latest) → IfErr r (λ f. IsOfTurn f w latest) → IfErr r (λ f. IsShown f w latest)
+answer_shown (Ok x) w latest h = tt
+answer_shown (Err f) w latest h = turn_shown f w latest h
 
-pub answer_other : {T : Type 0} (r : Result T SessionFault) (w : Places) → IfErr r (λ f. IsOfTurn f w) → (r ≢ Err Read) × (r ≢ Err Write) × (r ≢ Err InputFull)
-answer_other {T} (Ok x) w h = (λ e. cc, λ e. cc, λ e. cc)
-answer_other {T} (Err f) w h =
-    let other = turn_other f w h in
+pub answer_other : {T : Type 0} (r : Result T SessionFault) (w : Places) (latest : Latest) → IfErr r (λ f. IsOfTurn f w latest) → (r ≢ Err Read) × (r ≢ Err Write) × (r ≢ Err InputFull)
+answer_other {T} (Ok x) w latest h = (λ e. cc, λ e. cc, λ e. cc)
+answer_other {T} (Err f) w latest h =
+    let other = turn_other f w latest h in
     (λ e. other.0 (err_same f Read e), λ e. other.1 (err_same f Write e), λ e. other.2 (err_same f InputFull e))
   where
     err_same : (a b : SessionFault) → ◌≡◌ {A = Result T SessionFault} (Err a) (Err b) → a ≡ b
     err_same a b e = cc
 
-pub answer_turn : {T : Type 0} (r : Result T SessionFault) (w : Places) → IfErr r (λ f. (f ≢ Fabric) × IsOfTurn f w) → IfErr r (λ f. IsOfTurn f w)
-answer_turn (Ok x) w h = tt
-answer_turn (Err f) w h = h.1
+pub answer_turn : {T : Type 0} (r : Result T SessionFault) (w : Places) (latest : Latest) → IfErr r (λ f. (f ≢ Fabric) × IsOfTurn f w latest) → IfErr r (λ f. IsOfTurn f w latest)
+answer_turn (Ok x) w latest h = tt
+answer_turn (Err f) w latest h = h.1
 
 -- the fabric was left alone
-pub apart_never : {T : Type 0} (r : Result T SessionFault) (w : Places) → IfErr r (λ f. (f ≢ Fabric) × IsOfTurn f w) → r ≡ Err Fabric → ⊥
-apart_never r w h e = (subst (λ q. IfErr q (λ f. (f ≢ Fabric) × IsOfTurn f w)) e h).0 refl
+pub apart_never : {T : Type 0} (r : Result T SessionFault) (w : Places) (latest : Latest) → IfErr r (λ f. (f ≢ Fabric) × IsOfTurn f w latest) → r ≡ Err Fabric → ⊥
+apart_never r w latest h e = (subst (λ q. IfErr q (λ f. (f ≢ Fabric) × IsOfTurn f w latest)) e h).0 refl
 
 -- want of memory and a failed write show nothing
-pub memory_shown : (f : SessionFault) (w : Places) → f ≡ OutOfMemory → IsShown f w
-memory_shown f w e = subst (λ g. IsShown g w) (sym e) tt
+pub memory_shown : (f : SessionFault) (w : Places) (latest : Latest) → f ≡ OutOfMemory → IsShown f w latest
+memory_shown f w latest e = subst (λ g. IsShown g w latest) (sym e) tt
 
 pub memory_calm : (f : SessionFault) → f ≡ OutOfMemory → NoBreach f
 memory_calm f e = subst NoBreach (sym e) tt
 
-pub write_shown : (f : SessionFault) (w : Places) → f ≡ Write → IsShown f w
-write_shown f w e = subst (λ g. IsShown g w) (sym e) tt
+pub write_shown : (f : SessionFault) (w : Places) (latest : Latest) → f ≡ Write → IsShown f w latest
+write_shown f w latest e = subst (λ g. IsShown g w latest) (sym e) tt
 
 pub write_calm : (f : SessionFault) → f ≡ Write → NoBreach f
 write_calm f e = subst NoBreach (sym e) tt
 
-pub written_shown : {T : Type 0} (r : Result T SessionFault) (w : Places) (Q : Type 0) → IfErr r (λ f. (f ≡ Write) × Q) → IfErr r (λ f. IsShown f w)
-written_shown (Ok x) w Q h = tt
-written_shown (Err f) w Q h = write_shown f w h.0
+pub written_shown : {T : Type 0} (r : Result T SessionFault) (w : Places) (latest : Latest) (Q : Type 0) → IfErr r (λ f. (f ≡ Write) × Q) → IfErr r (λ f. IsShown f w latest)
+written_shown (Ok x) w latest Q h = tt
+written_shown (Err f) w latest Q h = write_shown f w latest h.0
 
 pub written_calm : {T : Type 0} (r : Result T SessionFault) (Q : Type 0) → IfErr r (λ f. (f ≡ Write) × Q) → IfErr r NoBreach
 written_calm (Ok x) Q h = tt
 written_calm (Err f) Q h = write_calm f h.0
 
 -- one or the other
-pub either_shown : (f : SessionFault) (w : Places) (Q S : Type 0) → ((f ≡ Write) × Q) ⊎ ((f ≡ OutOfMemory) × S) → IsShown f w
-either_shown f w Q S (inl h) = write_shown f w h.0
-either_shown f w Q S (inr h) = memory_shown f w h.0
+pub either_shown : (f : SessionFault) (w : Places) (latest : Latest) (Q S : Type 0) → ((f ≡ Write) × Q) ⊎ ((f ≡ OutOfMemory) × S) → IsShown f w latest
+either_shown f w latest Q S (inl h) = write_shown f w latest h.0
+either_shown f w latest Q S (inr h) = memory_shown f w latest h.0
 
 pub either_calm : (f : SessionFault) (Q S : Type 0) → ((f ≡ Write) × Q) ⊎ ((f ≡ OutOfMemory) × S) → NoBreach f
 either_calm f Q S (inl h) = write_calm f h.0
 either_calm f Q S (inr h) = memory_calm f h.0
 
-pub answer_either : {T : Type 0} (r : Result T SessionFault) (w : Places) (Q S : Type 0) → IfErr r (λ f. ((f ≡ Write) × Q) ⊎ ((f ≡ OutOfMemory) × S)) → IfErr r (λ f. IsShown f w)
-answer_either (Ok x) w Q S h = tt
-answer_either (Err f) w Q S h = either_shown f w Q S h
+pub answer_either : {T : Type 0} (r : Result T SessionFault) (w : Places) (latest : Latest) (Q S : Type 0) → IfErr r (λ f. ((f ≡ Write) × Q) ⊎ ((f ≡ OutOfMemory) × S)) → IfErr r (λ f. IsShown f w latest)
+answer_either (Ok x) w latest Q S h = tt
+answer_either (Err f) w latest Q S h = either_shown f w latest Q S h
 
 pub answer_calm : {T : Type 0} (r : Result T SessionFault) (Q S : Type 0) → IfErr r (λ f. ((f ≡ Write) × Q) ⊎ ((f ≡ OutOfMemory) × S)) → IfErr r NoBreach
 answer_calm (Ok x) Q S h = tt
 answer_calm (Err f) Q S h = either_calm f Q S h
 
 -- behind the last prompt nothing was written
-pub end_cut : (f : SessionFault) (w : Places) (old new : List Entry) (before now : Option (List ℕ)) → IsOfTurn f w → now ≡ before → IsEndCutBy f old new before now
-end_cut Read w old new before now h same = absurd h
-end_cut Write w old new before now h same = absurd h
-end_cut InputFull w old new before now h same = absurd h
-end_cut (Broken breach) w old new before now h same = same
-end_cut Fabric w old new before now h same = same
-end_cut JournalFull w old new before now h same = same
-end_cut OutOfMemory w old new before now h same = same
+pub end_cut : (f : SessionFault) (w : Places) (latest : Latest) (old new : List Entry) (before now : Option (List ℕ)) → IsOfTurn f w latest → now ≡ before → IsEndCutBy f old new before now
+end_cut Read w latest old new before now h same = absurd h
+end_cut Write w latest old new before now h same = absurd h
+end_cut InputFull w latest old new before now h same = absurd h
+end_cut (Broken breach) w latest old new before now h same = same
+end_cut Fabric w latest old new before now h same = same
+end_cut JournalFull w latest old new before now h same = same
+end_cut OutOfMemory w latest old new before now h same = same
 
 -- a fault is none, or is the one that was told
 pub breach_is : (f : SessionFault) (b : Breach) → f ≡ Broken b → breach_in f ≡ Some b
@@ -353,15 +354,15 @@ cut_long {console} {r} {held} {cuts} {line} held' cuts' f Q all before now mid l
 
 -- what was begun of a line, and nothing was written
 pub line_left : {console : UserConsole} {line : List ℕ} {cuts cuts' : List ℕ} (r : Rules) (held held' : Bool) (f : SessionFault) (old new : List Entry) (before now : Option (List ℕ))
-    → (w : Places) → IsOfTurn f w → IsLeft console line cuts cuts' old new before now
+    → (w : Places) (latest : Latest) → IsOfTurn f w latest → IsLeft console line cuts cuts' old new before now
     → IsLineEndedBy console f r line held held' cuts cuts' old new before now
-line_left {console} {line} {cuts} {cuts'} r held held' Read old new before now w h l = absurd h
-line_left {console} {line} {cuts} {cuts'} r held held' Write old new before now w h l = absurd h
-line_left {console} {line} {cuts} {cuts'} r held held' InputFull old new before now w h l = absurd h
-line_left {console} {line} {cuts} {cuts'} r held held' (Broken breach) old new before now w h l = l
-line_left {console} {line} {cuts} {cuts'} r held held' Fabric old new before now w h l = l
-line_left {console} {line} {cuts} {cuts'} r held held' JournalFull old new before now w h l = l
-line_left {console} {line} {cuts} {cuts'} r held held' OutOfMemory old new before now w h l = l
+line_left {console} {line} {cuts} {cuts'} r held held' Read old new before now w latest h l = absurd h
+line_left {console} {line} {cuts} {cuts'} r held held' Write old new before now w latest h l = absurd h
+line_left {console} {line} {cuts} {cuts'} r held held' InputFull old new before now w latest h l = absurd h
+line_left {console} {line} {cuts} {cuts'} r held held' (Broken breach) old new before now w latest h l = l
+line_left {console} {line} {cuts} {cuts'} r held held' Fabric old new before now w latest h l = l
+line_left {console} {line} {cuts} {cuts'} r held held' JournalFull old new before now w latest h l = l
+line_left {console} {line} {cuts} {cuts'} r held held' OutOfMemory old new before now w latest h l = l
 
 -- nothing was begun
 pub begun_none : {console : UserConsole} {line : List ℕ} (entries : List Entry) → HasBegun console line entries entries

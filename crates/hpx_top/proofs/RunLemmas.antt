@@ -17,6 +17,7 @@ use Rattle.hpx_world.specs.Places.{Places}
 use Rattle.hpx_top.specs.declared.session.SessionFault.{SessionFault}
 use Rattle.hpx_top.specs.declared.session.SessionFault.TheVariants.{Read, Write, Fabric, JournalFull, OutOfMemory, Broken, InputFull}
 use Rattle.hpx_top.specs.declared.breach.Breach.TheVariants.{BadFrame, Strange, EarlyEnd}
+use Rattle.hpx_ports.specs.declared.link.Latest.{Latest}
 use Rattle.hpx_top.specs.Breaches.{IsShown, IsShownIn, NoBreach}
 use Rattle.hpx_top.specs.Ends.{IsWhole, IsBegun, IsBroken, IsBrokenOff, IsShort, IsEndedBy, IsReadFrom, IsReadUp, IsReadOn}
 use Rattle.hpx_top.specs.Runs.{Ports, HasCause, HasEnded, HasServed, IsLawful, ports_of}
@@ -88,15 +89,15 @@ status_is (Err (Broken breach)) none = absurd none
 status_is (Err InputFull) none = record { last = omega arith; no_frame = λ s. absurd (omega arith); no_parcel = λ s. absurd (omega arith) }
 
 -- what a world shows, there is a world for
-pub shown_in : (r : Result ⊤ SessionFault) (w : Places) → IfErr r (λ f. IsShown f w) → IfErr r (λ f. IsShownIn f (Some w))
-shown_in (Ok x) w h = tt
-shown_in (Err Read) w h = tt
-shown_in (Err Write) w h = tt
-shown_in (Err Fabric) w h = tt
-shown_in (Err JournalFull) w h = tt
-shown_in (Err OutOfMemory) w h = tt
-shown_in (Err (Broken breach)) w h = (w, refl, h)
-shown_in (Err InputFull) w h = tt
+pub shown_in : (r : Result ⊤ SessionFault) (w : Places) (latest : Latest) → IfErr r (λ f. IsShown f w latest) → IfErr r (λ f. IsShownIn f (Some w) latest)
+shown_in (Ok x) w latest h = tt
+shown_in (Err Read) w latest h = tt
+shown_in (Err Write) w latest h = tt
+shown_in (Err Fabric) w latest h = tt
+shown_in (Err JournalFull) w latest h = tt
+shown_in (Err OutOfMemory) w latest h = tt
+shown_in (Err (Broken breach)) w latest h = (w, refl, h)
+shown_in (Err InputFull) w latest h = tt
 
 -- ---- causes
 

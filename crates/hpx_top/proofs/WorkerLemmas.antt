@@ -58,5 +58,5 @@ module _ {A : Type 0} {g : Ghosts A} (act_of : Meaning) (was is : Seen) (fault :
   pub site_breach_room : (b : Breach) → breach_of fault ≡ Some b → HasRoom is.world.journal.entries
   site_breach_room b e = breach_room is fault b e h.room
 
-  pub site_breach : (b : Breach) → breach_of fault ≡ Some b → Shows b is.world
+  pub site_breach : (b : Breach) → breach_of fault ≡ Some b → Shows b is.world is.latest
   site_breach b e = site_shows was is fault h.cause b e

@@ -8,10 +8,12 @@ use Rattle.hpx_journal.specs.Entries.{Frame, Rules}
 use Rattle.hpx_journal.specs.Weights.{HasRoom}
 use Rattle.hpx_ports.specs.Faults.{Rose}
 use Rattle.hpx_ports.specs.declared.fabric.Wire.{Wire}
+use Rattle.hpx_ports.specs.declared.link.Latest.{Latest}
 use Rattle.hpx_tables.specs.Tables.{Tables}
 use Rattle.hpx_world.specs.declared.turns.Choice.TheVariants as choices
 use Rattle.hpx_world.specs.declared.turns.WorldFault.{WorldFault}
 use Rattle.hpx_world.specs.declared.turns.WorldFault.TheVariants as faults
+use Rattle.hpx_world.specs.Heard.{HearsEnd}
 use Rattle.hpx_world.specs.Places.{Places}
 use Rattle.hpx_world.specs.Refusals.{CanCome, CountsFaults, Refused, RefusedStep}
 use Rattle.hpx_world.specs.Sound.{Meaning}
@@ -30,8 +32,8 @@ none_some : (b : Breach) → ◌≡◌ {A = Option Breach} None (Some b) → ⊥
 none_some b e = cc
 
 -- what a breach shows, the one that is told shows
-as_told : (a b : Breach) (w : Places) → Some a ≡ Some b → Shows a w → Shows b w
-as_told a b w e h = let is : a ≡ b = cc in subst (λ c. Shows c w) is h
+as_told : (a b : Breach) (w : Places) (latest : Latest) → Some a ≡ Some b → Shows a w latest → Shows b w latest
+as_told a b w latest e h = let is : a ≡ b = cc in subst (λ c. Shows c w latest) is h
 
 -- ---- over a fabric that tells
 
@@ -57,21 +59,21 @@ feed_calm line (faults.JournalFull entries weight undone) x z h b e = none_some 
 feed_calm line (faults.OutOfMemory undone) x z h b e = none_some b e
 feed_calm line (faults.NotRun job) x z h b e = none_some b e
 
-home_shows : {A : Type 0} {g : Ghosts A} (fault : WorldFault A g) (x : Stage) (w : Places) (flight : Option (List Frame)) (trace : Option (List Wire))
-    → RefusedAtHome fault x (stage w flight trace) → (b : Breach) → breach_of fault ≡ Some b → Shows b w
-home_shows (faults.BadFrame to place why) x w flight trace h b e = absurd h
-home_shows (faults.Strange to rule object kept) x w flight trace h b e =
-    as_told (Strange to rule object kept) b w e (inr (subst (λ k. IsStrangeMail w.nodes k rule object kept) (sym h.2.1) h.2.2))
-home_shows (faults.EarlyEnd sent taken) x w flight trace h b e = absurd h
-home_shows faults.Fabric x w flight trace h b e = absurd h
-home_shows (faults.JournalFull entries weight undone) x w flight trace h b e = absurd (none_some b e)
-home_shows (faults.OutOfMemory undone) x w flight trace h b e = absurd (none_some b e)
-home_shows (faults.NotRun job) x w flight trace h b e = absurd (none_some b e)
+home_shows : {A : Type 0} {g : Ghosts A} (fault : WorldFault A g) (x : Stage) (w : Places) (latest : Latest) (flight : Option (List Frame)) (trace : Option (List Wire))
+    → RefusedAtHome fault x (stage w flight trace) → (b : Breach) → breach_of fault ≡ Some b → Shows b w latest
+home_shows (faults.BadFrame to place why) x w latest flight trace h b e = absurd h
+home_shows (faults.Strange to rule object kept) x w latest flight trace h b e =
+    as_told (Strange to rule object kept) b w latest e (inr (subst (λ k. IsStrangeMail w.nodes k rule object kept) (sym h.2.1) h.2.2))
+home_shows (faults.EarlyEnd sent taken) x w latest flight trace h b e = absurd h
+home_shows faults.Fabric x w latest flight trace h b e = absurd h
+home_shows (faults.JournalFull entries weight undone) x w latest flight trace h b e = absurd (none_some b e)
+home_shows (faults.OutOfMemory undone) x w latest flight trace h b e = absurd (none_some b e)
+home_shows (faults.NotRun job) x w latest flight trace h b e = absurd (none_some b e)
 
 -- turns at home, and then one that is refused
-pub stay_shows : {A : Type 0} {g : Ghosts A} (act_of : Meaning) (fault : WorldFault A g) (x : Stage) (w : Places) (flight : Option (List Frame)) (trace : Option (List Wire))
-    → GoesAtHome act_of x (λ last. RefusedAtHome fault last (stage w flight trace)) → (b : Breach) → breach_of fault ≡ Some b → Shows b w
-stay_shows act_of fault x w flight trace h b e = home_shows fault h.last w flight trace h.thus b e
+pub stay_shows : {A : Type 0} {g : Ghosts A} (act_of : Meaning) (fault : WorldFault A g) (x : Stage) (w : Places) (latest : Latest) (flight : Option (List Frame)) (trace : Option (List Wire))
+    → GoesAtHome act_of x (λ last. RefusedAtHome fault last (stage w flight trace)) → (b : Breach) → breach_of fault ≡ Some b → Shows b w latest
+stay_shows act_of fault x w latest flight trace h b e = home_shows fault h.last w latest flight trace h.thus b e
 
 -- the fabric is never why one is
 pub stay_apart : {A : Type 0} {g : Ghosts A} (act_of : Meaning) (fault : WorldFault A g) (x z : Stage) → GoesAtHome act_of x (λ last. RefusedAtHome fault last z)
@@ -81,32 +83,32 @@ stay_apart {A} {g} act_of fault x z h e = subst (λ f. RefusedAtHome f h.last z)
 sums : (nodes nodes' : List Tables) (f : Tables → ℕ) (n : ℕ) → nodes' ≡ nodes → n ≡ sum_by f nodes → n ≡ sum_by f nodes'
 sums nodes nodes' f n same is = is ∙ ap (sum_by f) (sym same)
 
-step_shows : {A : Type 0} {g : Ghosts A} (fault : WorldFault A g) (x : Stage) (w : Places) (flight : Option (List Frame)) (trace : Option (List Wire))
-    → RefusedStep fault x (stage w flight trace) → (b : Breach) → breach_of fault ≡ Some b → Shows b w
-step_shows (faults.BadFrame to place why) x w flight trace h b e = as_told (BadFrame to place why) b w e h.2.1
-step_shows (faults.Strange to rule object kept) x w flight trace (room, inl h) b e = as_told (Strange to rule object kept) b w e (inl h.1.1)
-step_shows (faults.Strange to rule object kept) x w flight trace (room, inr h) b e =
-    as_told (Strange to rule object kept) b w e (inr (subst (λ k. IsStrangeMail w.nodes k rule object kept) (sym h.1.did.1) h.1.did.2))
-step_shows (faults.EarlyEnd sent taken) x w flight trace h b e =
+step_shows : {A : Type 0} {g : Ghosts A} (fault : WorldFault A g) (x : Stage) (w : Places) (latest : Latest) (flight : Option (List Frame)) (trace : Option (List Wire))
+    → RefusedStep fault x (stage w flight trace) → HearsEnd fault latest → (b : Breach) → breach_of fault ≡ Some b → Shows b w latest
+step_shows (faults.BadFrame to place why) x w latest flight trace h heard b e = as_told (BadFrame to place why) b w latest e h.2.1
+step_shows (faults.Strange to rule object kept) x w latest flight trace (room, inl h) heard b e = as_told (Strange to rule object kept) b w latest e (inl h.1.1)
+step_shows (faults.Strange to rule object kept) x w latest flight trace (room, inr h) heard b e =
+    as_told (Strange to rule object kept) b w latest e (inr (subst (λ k. IsStrangeMail w.nodes k rule object kept) (sym h.1.did.1) h.1.did.2))
+step_shows (faults.EarlyEnd sent taken) x w latest flight trace h heard b e =
     let d = h.2 in
     let s = sums x.nodes w.nodes (λ t. t.sent) sent d.0.tables d.2 in
     let t = sums x.nodes w.nodes (λ t. t.taken) taken d.0.tables d.3 in
-    as_told (EarlyEnd sent taken) b w e (d.1, s, t, λ q. d.4 (s ∙ (sym q.taken ∙ sym t)))
-step_shows faults.Fabric x w flight trace h b e = absurd (none_some b e)
-step_shows (faults.JournalFull entries weight undone) x w flight trace h b e = absurd (none_some b e)
-step_shows (faults.OutOfMemory undone) x w flight trace h b e = absurd (none_some b e)
-step_shows (faults.NotRun job) x w flight trace h b e = absurd (none_some b e)
+    as_told (EarlyEnd sent taken) b w latest e (d.1, s, t, (λ q. d.4 (s ∙ (sym q.taken ∙ sym t))), heard)
+step_shows faults.Fabric x w latest flight trace h heard b e = absurd (none_some b e)
+step_shows (faults.JournalFull entries weight undone) x w latest flight trace h heard b e = absurd (none_some b e)
+step_shows (faults.OutOfMemory undone) x w latest flight trace h heard b e = absurd (none_some b e)
+step_shows (faults.NotRun job) x w latest flight trace h heard b e = absurd (none_some b e)
 
 -- steps, and then one that is refused
-pub turns_shows : {A : Type 0} {g : Ghosts A} (act_of : Meaning) (most : ℕ) (fault : WorldFault A g) (x : Stage) (w : Places) (flight : Option (List Frame)) (trace : Option (List Wire))
-    → RefusedTurns act_of most fault x (stage w flight trace) → (b : Breach) → breach_of fault ≡ Some b → Shows b w
-turns_shows act_of most fault x w flight trace h b e = step_shows fault h.goes.last w flight trace h.goes.thus b e
+pub turns_shows : {A : Type 0} {g : Ghosts A} (act_of : Meaning) (most : ℕ) (fault : WorldFault A g) (x : Stage) (w : Places) (latest : Latest) (flight : Option (List Frame)) (trace : Option (List Wire))
+    → RefusedTurns act_of most fault x (stage w flight trace) → HearsEnd fault latest → (b : Breach) → breach_of fault ≡ Some b → Shows b w latest
+turns_shows act_of most fault x w latest flight trace h heard b e = step_shows fault h.goes.last w latest flight trace h.goes.thus heard b e
 
 -- why a site stands still
-pub site_shows : {A : Type 0} {g : Ghosts A} (was is : Seen) (fault : WorldFault A g) → IsCause was is fault → (b : Breach) → breach_of fault ≡ Some b → Shows b is.world
-site_shows was is (faults.BadFrame to place why) h b e = as_told (BadFrame to place why) b is.world e h
-site_shows was is (faults.Strange to rule object kept) h b e = as_told (Strange to rule object kept) b is.world e h
-site_shows was is (faults.EarlyEnd sent taken) h b e = as_told (EarlyEnd sent taken) b is.world e h
+pub site_shows : {A : Type 0} {g : Ghosts A} (was is : Seen) (fault : WorldFault A g) → IsCause was is fault → (b : Breach) → breach_of fault ≡ Some b → Shows b is.world is.latest
+site_shows was is (faults.BadFrame to place why) h b e = as_told (BadFrame to place why) b is.world is.latest e h
+site_shows was is (faults.Strange to rule object kept) h b e = as_told (Strange to rule object kept) b is.world is.latest e h
+site_shows was is (faults.EarlyEnd sent taken) h b e = as_told (EarlyEnd sent taken) b is.world is.latest e h
 site_shows was is faults.Fabric h b e = absurd (none_some b e)
 site_shows was is (faults.JournalFull entries weight undone) h b e = absurd (none_some b e)
 site_shows was is (faults.OutOfMemory undone) h b e = absurd (none_some b e)

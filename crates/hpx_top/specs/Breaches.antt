@@ -1,6 +1,8 @@
 -- What comes from outside and was not sent, and what shows it in the world that it leaves.
 use Rattle.std.specs.Prelude.{ℕ, Option, Some, None, Result, Ok, Err, ◌≡◌, ◌≢◌, ◌⊎◌, sum_by}
 use Rattle.hpx_value.specs.declared.acts.Acts.{Ghosts}
+use Rattle.hpx_ports.specs.declared.link.Latest.{Latest}
+use Rattle.hpx_ports.specs.declared.link.Latest.TheVariants.{Nothing}
 use Rattle.hpx_world.specs.declared.turns.WorldFault.{WorldFault}
 use Rattle.hpx_world.specs.declared.turns.WorldFault.TheVariants as faults
 use Rattle.hpx_world.specs.Places.{Places}
@@ -28,22 +30,24 @@ breach_after (Ok x) = None
 breach_after (Err fault) = breach_in fault
 
 -- What shows it in a world: the frame in hand goes there and spells no parcel; it breaks that rule, or the oldest message of that locality to
--- itself does; or no frame is in hand, so many were sent and so many accepted, and the world is not quiet.
-abbrev pub Shows : Breach → Places → Type 0
-Shows (BadFrame to at why) w = HoldsBadFrame w.hand to at why
-Shows (Strange to rule object kept) w = HoldsStrangeFrame w.nodes w.hand to rule object kept ⊎ IsStrangeMail w.nodes to rule object kept
-Shows (EarlyEnd sent taken) w =
+-- itself does; or no frame is in hand, so many were sent and so many accepted, the world is not quiet, and that no frame is left is
+-- what the fabric answered last.
+abbrev pub Shows : Breach → Places → Latest → Type 0
+Shows (BadFrame to at why) w latest = HoldsBadFrame w.hand to at why
+Shows (Strange to rule object kept) w latest = HoldsStrangeFrame w.nodes w.hand to rule object kept ⊎ IsStrangeMail w.nodes to rule object kept
+Shows (EarlyEnd sent taken) w latest =
     (w.hand ≡ None) × (sent ≡ sum_by (λ t. t.sent) w.nodes) × (taken ≡ sum_by (λ t. t.taken) w.nodes) × (IsQuiet w.nodes w.hand → ⊥)
+    × (latest ≡ Nothing)
 
 -- where a session ends with one, its world shows it
-abbrev pub IsShown : SessionFault → Places → Type 0
-IsShown (Broken breach) w = Shows breach w
-IsShown _ w = Unit {0}
+abbrev pub IsShown : SessionFault → Places → Latest → Type 0
+IsShown (Broken breach) w latest = Shows breach w latest
+IsShown _ w latest = Unit {0}
 
 -- and there is a world
-abbrev pub IsShownIn : SessionFault → Option Places → Type 0
-IsShownIn (Broken breach) world = (w : Places) × (world ≡ Some w) × Shows breach w
-IsShownIn _ world = Unit {0}
+abbrev pub IsShownIn : SessionFault → Option Places → Latest → Type 0
+IsShownIn (Broken breach) world latest = (w : Places) × (world ≡ Some w) × Shows breach w latest
+IsShownIn _ world latest = Unit {0}
 
 -- a session ends with none
 abbrev pub NoBreach : SessionFault → Type 0
@@ -51,12 +55,12 @@ NoBreach (Broken breach) = ⊥
 NoBreach _ = Unit {0}
 
 -- a turn is refused for the fabric, a full journal, want of memory, or a breach, which the world shows
-abbrev pub IsOfTurn : SessionFault → Places → Type 0
-IsOfTurn Fabric w = Unit {0}
-IsOfTurn JournalFull w = Unit {0}
-IsOfTurn OutOfMemory w = Unit {0}
-IsOfTurn (Broken breach) w = Shows breach w
-IsOfTurn _ w = ⊥
+abbrev pub IsOfTurn : SessionFault → Places → Latest → Type 0
+IsOfTurn Fabric w latest = Unit {0}
+IsOfTurn JournalFull w latest = Unit {0}
+IsOfTurn OutOfMemory w latest = Unit {0}
+IsOfTurn (Broken breach) w latest = Shows breach w latest
+IsOfTurn _ w latest = ⊥
 
 -- the status for each
 abbrev pub breach_status : Breach → ℕ
@@ -66,6 +70,6 @@ breach_status (EarlyEnd sent taken) = 8
 
 -- a run says which breach it ends with, its status is that of the breach, and its world shows it; where it says none, its status is none of
 -- these
-pub record TellsBreach (status : ℕ) (fault : Option Breach) (world : Option Places) : Type 0 where
-  pub shown : (breach : Breach) → fault ≡ Some breach → (status ≡ breach_status breach) × ((w : Places) × (world ≡ Some w) × Shows breach w)
+pub record TellsBreach (status : ℕ) (fault : Option Breach) (world : Option Places) (latest : Latest) : Type 0 where
+  pub shown : (breach : Breach) → fault ≡ Some breach → (status ≡ breach_status breach) × ((w : Places) × (world ≡ Some w) × Shows breach w latest)
   pub none : fault ≡ None → (status ≢ 7) × (status ≢ 8)

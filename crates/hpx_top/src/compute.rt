@@ -3,6 +3,7 @@ ghost use Rattle.std.specs.Prelude.{◌≡◌, ◌≢◌, ◌≤◌, [], Err, Ok
 ghost use Rattle.hpx_value.specs.Profiles.{IsValid};
 ghost use Rattle.hpx_journal.specs.Weights.{HasRoom};
 ghost use Rattle.hpx_ports.specs.Faults.{Rose};
+ghost use Rattle.hpx_world.specs.Heard.{IsLatest, KeepsLatest};
 ghost use Rattle.hpx_top.specs.Breaches.{IsShown, IsShownIn, NoBreach};
 ghost use Rattle.hpx_world.specs.Quiet.{IsQuiet};
 ghost use Rattle.hpx_top.specs.Computed.{IsAnswered, IsUnanswered, IsWorkOf};
@@ -74,6 +75,7 @@ fn answer<K: Sink, F: Fabric, R: Threads + Wait + Sync, G: Gate>(
     requires quiet { IsQuiet world.old.nodes world.old.hand }
 
     ensures carrying { Carries world.old (F.flight fabric.old) (F.trace fabric.old) → Carries world.new (F.flight fabric.new) (F.trace fabric.new) }
+    ensures hears { KeepsLatest world.old.hand (F.latest fabric.old) world.new.hand (F.latest fabric.new) }
     ensures count { length world.new.nodes ≡ length world.old.nodes }
     ensures profile { world.new.profile ≡ world.old.profile }
     ensures answered { OnOk result (IsAnswered (rules world.old) line world.new.journal.entries (K.held sink.old) (K.held sink.new)) }
@@ -84,7 +86,7 @@ fn answer<K: Sink, F: Fabric, R: Threads + Wait + Sync, G: Gate>(
     ensures fabric { result ≡ Err SessionFault.Fabric → Rose (F.faults fabric.old) (F.faults fabric.new) }
     ensures full { result ≡ Err SessionFault.JournalFull → HasRoom world.new.journal.entries → ⊥ }
     ensures room { result ≢ Err SessionFault.JournalFull → HasRoom world.new.journal.entries }
-    ensures shown { IfErr result (λ fault. IsShown fault world.new) }
+    ensures shown { IfErr result (λ fault. IsShown fault world.new (F.latest fabric.new)) }
     ensures told { Carries world.old (F.flight fabric.old) (F.trace fabric.old) → IfErr result NoBreach }
     ensures write_only { result ≢ Err SessionFault.Write → K.faults sink.new ≡ K.faults sink.old }
     ensures fabric_only { result ≢ Err SessionFault.Fabric → F.faults fabric.new ≡ F.faults fabric.old }
@@ -115,11 +117,12 @@ pub(crate) fn compute_all<K: Sink, F: Fabric, R: Threads + Wait + Sync, G: Gate>
         let z = ports_of None 0 (K.held sink.new) 0 (K.faults sink.new) (F.faults fabric.new) in
         HasCause (status_after result.1) result.0 x z }
     ensures status { F.flight fabric.old ≡ Some [] → F.trace fabric.old ≡ Some [] → IsStatus (status_after result.1) }
-    ensures shown { IfErr result.1 (λ fault. IsShownIn fault result.0) }
+    ensures shown { IfErr result.1 (λ fault. IsShownIn fault result.0 (F.latest fabric.new)) }
     ensures no_read { (result.1 ≢ Err SessionFault.Read) × (result.1 ≢ Err SessionFault.InputFull) }
     ensures places { IfSome result.0 (λ w. (length w.nodes ≡ localities) × (w.profile ≡ profile)) }
     ensures lawful { IfSome result.0 IsLawful }
     ensures carrying { F.flight fabric.old ≡ Some [] → F.trace fabric.old ≡ Some [] → IfSome result.0 (λ w. Carries w (F.flight fabric.new) (F.trace fabric.new)) }
+    ensures hears { IfSome result.0 (λ w. IsLatest w.hand (F.latest fabric.new)) }
     ensures ended { OnOk result.1 (IfSome result.0 HasEnded) }
     ensures none { result.0 ≡ None → result.1 ≡ Err SessionFault.OutOfMemory }
     ensures untouched { result.0 ≡ None → (sink.new ≡ sink.old) × (fabric.new ≡ fabric.old) }

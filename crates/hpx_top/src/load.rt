@@ -5,6 +5,7 @@ ghost use Rattle.hpx_value.specs.Profiles.{IsValid};
 ghost use Rattle.hpx_journal.specs.Pool.{prints_by, prints_of};
 ghost use Rattle.hpx_journal.specs.Weights.{HasRoom};
 ghost use Rattle.hpx_ports.specs.Faults.{Rose};
+ghost use Rattle.hpx_world.specs.Heard.{IsLatest, KeepsLatest};
 ghost use Rattle.hpx_top.specs.Breaches.{IsShown, IsShownIn, NoBreach};
 ghost use Rattle.hpx_world.specs.Quiet.{IsQuiet};
 ghost use Rattle.app_console.specs.Lines.{is_long};
@@ -123,6 +124,7 @@ fn load_line<F: Fabric, R: Threads + Wait + Sync, G: Gate>(
     requires quiet { IsQuiet world.old.nodes world.old.hand }
 
     ensures carrying { Carries world.old (F.flight fabric.old) (F.trace fabric.old) → Carries world.new (F.flight fabric.new) (F.trace fabric.new) }
+    ensures hears { KeepsLatest world.old.hand (F.latest fabric.old) world.new.hand (F.latest fabric.new) }
     ensures count { length world.new.nodes ≡ length world.old.nodes }
     ensures profile { world.new.profile ≡ world.old.profile }
     ensures fed { OnOk result (Feeds (rules world.old) (115 ∷ line.now) world.old.journal.entries world.new.journal.entries) }
@@ -135,7 +137,7 @@ fn load_line<F: Fabric, R: Threads + Wait + Sync, G: Gate>(
     ensures full { result ≡ Err SessionFault.JournalFull → HasRoom world.new.journal.entries → ⊥ }
     ensures room { result ≢ Err SessionFault.JournalFull → HasRoom world.new.journal.entries }
     ensures other { (result ≢ Err SessionFault.Read) × (result ≢ Err SessionFault.Write) × (result ≢ Err SessionFault.InputFull) }
-    ensures shown { IfErr result (λ fault. IsShown fault world.new) }
+    ensures shown { IfErr result (λ fault. IsShown fault world.new (F.latest fabric.new)) }
     ensures told { Carries world.old (F.flight fabric.old) (F.trace fabric.old) → IfErr result NoBreach }
     ensures stands { result ≢ Err SessionFault.Fabric → F.faults fabric.new ≡ F.faults fabric.old }
 {
@@ -181,6 +183,7 @@ fn load_lines<F: Fabric, R: Threads + Wait + Sync, G: Gate>(
     requires quiet { IsQuiet world.old.nodes world.old.hand }
 
     ensures carrying { Carries world.old (F.flight fabric.old) (F.trace fabric.old) → Carries world.new (F.flight fabric.new) (F.trace fabric.new) }
+    ensures hears { KeepsLatest world.old.hand (F.latest fabric.old) world.new.hand (F.latest fabric.new) }
     ensures count { length world.new.nodes ≡ length world.old.nodes }
     ensures profile { world.new.profile ≡ world.old.profile }
     ensures loaded { IfOk result (λ tally. IsLoading (rules world.old) load [] world.new.journal.entries tally) }
@@ -191,7 +194,7 @@ fn load_lines<F: Fabric, R: Threads + Wait + Sync, G: Gate>(
     ensures full { result ≡ Err SessionFault.JournalFull → HasRoom world.new.journal.entries → ⊥ }
     ensures room { result ≢ Err SessionFault.JournalFull → HasRoom world.new.journal.entries }
     ensures other { (result ≢ Err SessionFault.Read) × (result ≢ Err SessionFault.Write) × (result ≢ Err SessionFault.InputFull) }
-    ensures shown { IfErr result (λ fault. IsShown fault world.new) }
+    ensures shown { IfErr result (λ fault. IsShown fault world.new (F.latest fabric.new)) }
     ensures told { Carries world.old (F.flight fabric.old) (F.trace fabric.old) → IfErr result NoBreach }
     ensures stands { result ≢ Err SessionFault.Fabric → F.faults fabric.new ≡ F.faults fabric.old }
 {
@@ -262,6 +265,7 @@ fn load_made<K: Sink, F: Fabric, R: Threads + Wait + Sync, G: Gate>(
     requires quiet { IsQuiet world.old.nodes world.old.hand }
 
     ensures carrying { Carries world.old (F.flight fabric.old) (F.trace fabric.old) → Carries world.new (F.flight fabric.new) (F.trace fabric.new) }
+    ensures hears { KeepsLatest world.old.hand (F.latest fabric.old) world.new.hand (F.latest fabric.new) }
     ensures count { length world.new.nodes ≡ length world.old.nodes }
     ensures profile { world.new.profile ≡ world.old.profile }
     ensures loaded { OnOk result (WritesSo (IsSummed (rules world.old) load world.new.journal.entries) (K.held sink.old) (K.held sink.new)) }
@@ -274,7 +278,7 @@ fn load_made<K: Sink, F: Fabric, R: Threads + Wait + Sync, G: Gate>(
     ensures full { result ≡ Err SessionFault.JournalFull → HasRoom world.new.journal.entries → ⊥ }
     ensures room { result ≢ Err SessionFault.JournalFull → HasRoom world.new.journal.entries }
     ensures no_read { (result ≢ Err SessionFault.Read) × (result ≢ Err SessionFault.InputFull) }
-    ensures shown { IfErr result (λ fault. IsShown fault world.new) }
+    ensures shown { IfErr result (λ fault. IsShown fault world.new (F.latest fabric.new)) }
     ensures told { Carries world.old (F.flight fabric.old) (F.trace fabric.old) → IfErr result NoBreach }
     ensures write_only { result ≢ Err SessionFault.Write → K.faults sink.new ≡ K.faults sink.old }
     ensures fabric_only { result ≢ Err SessionFault.Fabric → F.faults fabric.new ≡ F.faults fabric.old }
@@ -306,11 +310,12 @@ pub(crate) fn load_all<K: Sink, F: Fabric, R: Threads + Wait + Sync, G: Gate>(
         let z = ports_of None 0 (K.held sink.new) 0 (K.faults sink.new) (F.faults fabric.new) in
         HasCause (status_after result.1) result.0 x z }
     ensures status { F.flight fabric.old ≡ Some [] → F.trace fabric.old ≡ Some [] → IsStatus (status_after result.1) }
-    ensures shown { IfErr result.1 (λ fault. IsShownIn fault result.0) }
+    ensures shown { IfErr result.1 (λ fault. IsShownIn fault result.0 (F.latest fabric.new)) }
     ensures no_read { (result.1 ≢ Err SessionFault.Read) × (result.1 ≢ Err SessionFault.InputFull) }
     ensures places { IfSome result.0 (λ w. (length w.nodes ≡ localities) × (w.profile ≡ profile)) }
     ensures lawful { IfSome result.0 IsLawful }
     ensures carrying { F.flight fabric.old ≡ Some [] → F.trace fabric.old ≡ Some [] → IfSome result.0 (λ w. Carries w (F.flight fabric.new) (F.trace fabric.new)) }
+    ensures hears { IfSome result.0 (λ w. IsLatest w.hand (F.latest fabric.new)) }
     ensures ended { OnOk result.1 (IfSome result.0 HasEnded) }
     ensures none { result.0 ≡ None → result.1 ≡ Err SessionFault.OutOfMemory }
     ensures untouched { result.0 ≡ None → (sink.new ≡ sink.old) × (fabric.new ≡ fabric.old) }

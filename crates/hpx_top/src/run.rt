@@ -2,6 +2,7 @@
 ghost use Rattle.std.specs.Prelude.{◌≡◌, ◌≢◌, ◌≤◌, ◌⊎◌, [], false, Ok, Some, None, Err, IfSome, OnOk, OnErr, IfErr, ℕ, length};
 ghost use Rattle.hpx_value.specs.Profiles.{IsValid};
 ghost use Rattle.hpx_options.specs.Texts.{bad_word_text};
+ghost use Rattle.hpx_world.specs.Heard.{IsLatest};
 ghost use Rattle.hpx_top.specs.Computed.{reads_input};
 ghost use Rattle.hpx_ports.specs.Faults.{Rose};
 ghost use Rattle.hpx_ports.specs.Told.{followed};
@@ -129,11 +130,12 @@ fn serve_all<S: Source, K: Sink, F: Fabric, R: Threads + Wait + Sync, G: Gate>(
         let z = ports_of (S.left source.new) (S.taken source.new) (K.held sink.new) (S.faults source.new) (K.faults sink.new) (F.faults fabric.new) in
         HasCause (status_after result.1) result.0 x z }
     ensures status { F.flight fabric.old ≡ Some [] → F.trace fabric.old ≡ Some [] → IsStatus (status_after result.1) }
-    ensures shown { IfErr result.1 (λ fault. IsShownIn fault result.0) }
+    ensures shown { IfErr result.1 (λ fault. IsShownIn fault result.0 (F.latest fabric.new)) }
     ensures places { IfSome result.0 (λ w. (length w.nodes ≡ localities) × (w.profile ≡ profile)) }
     ensures few { length result.2.items ≤ 67108865 }
     ensures lawful { IfSome result.0 IsLawful }
     ensures carrying { F.flight fabric.old ≡ Some [] → F.trace fabric.old ≡ Some [] → IfSome result.0 (λ w. Carries w (F.flight fabric.new) (F.trace fabric.new)) }
+    ensures hears { IfSome result.0 (λ w. IsLatest w.hand (F.latest fabric.new)) }
     ensures ended { OnOk result.1 (IfSome result.0 HasEnded) }
     ensures none { result.0 ≡ None → result.1 ≡ Err SessionFault.OutOfMemory }
     ensures untouched { result.0 ≡ None → (source.new ≡ source.old) × (sink.new ≡ sink.old) × (fabric.new ≡ fabric.old) }
@@ -167,10 +169,11 @@ fn run_task<S: Source, K: Sink, F: Fabric, R: Threads + Wait + Sync, G: Gate>(
         let z = ports_of (S.left source.new) (S.taken source.new) (K.held sink.new) (S.faults source.new) (K.faults sink.new) (F.faults fabric.new) in
         HasCause (status_after result.1) result.0 x z }
     ensures status { F.flight fabric.old ≡ Some [] → F.trace fabric.old ≡ Some [] → IsStatus (status_after result.1) }
-    ensures shown { IfErr result.1 (λ fault. IsShownIn fault result.0) }
+    ensures shown { IfErr result.1 (λ fault. IsShownIn fault result.0 (F.latest fabric.new)) }
     ensures places { IfSome result.0 (λ w. (length w.nodes ≡ setup.now.localities) × (w.profile ≡ setup.now.profile)) }
     ensures lawful { IfSome result.0 IsLawful }
     ensures carrying { F.flight fabric.old ≡ Some [] → F.trace fabric.old ≡ Some [] → IfSome result.0 (λ w. Carries w (F.flight fabric.new) (F.trace fabric.new)) }
+    ensures hears { IfSome result.0 (λ w. IsLatest w.hand (F.latest fabric.new)) }
     ensures ended { OnOk result.1 (IfSome result.0 HasEnded) }
     ensures none { result.0 ≡ None → result.1 ≡ Err SessionFault.OutOfMemory }
     ensures untouched { result.0 ≡ None → (source.new ≡ source.old) × (sink.new ≡ sink.old) × (fabric.new ≡ fabric.old) }
@@ -234,9 +237,10 @@ fn run_setup<S: Source, K: Sink, F: Fabric, R: Threads + Wait + Sync, G: Gate>(
         let z = ports_of (S.left source.new) (S.taken source.new) (K.held sink.new) (S.faults source.new) (K.faults sink.new) (F.faults fabric.new) in
         HasCause (status_after result.1) result.0 x z }
     ensures status { F.flight fabric.old ≡ Some [] → F.trace fabric.old ≡ Some [] → IsStatus (status_after result.1) }
-    ensures shown { IfErr result.1 (λ fault. IsShownIn fault result.0) }
+    ensures shown { IfErr result.1 (λ fault. IsShownIn fault result.0 (F.latest fabric.new)) }
     ensures lawful { IfSome result.0 IsLawful }
     ensures carrying { F.flight fabric.old ≡ Some [] → F.trace fabric.old ≡ Some [] → IfSome result.0 (λ w. Carries w (F.flight fabric.new) (F.trace fabric.new)) }
+    ensures hears { IfSome result.0 (λ w. IsLatest w.hand (F.latest fabric.new)) }
     ensures ended { OnOk result.1 (IfSome result.0 HasEnded) }
     ensures none { result.0 ≡ None → result.1 ≡ Err SessionFault.OutOfMemory }
     ensures untouched { result.0 ≡ None → (source.new ≡ source.old) × (sink.new ≡ sink.old) × (fabric.new ≡ fabric.old) }
@@ -277,9 +281,10 @@ fn fulfil<S: Source, K: Sink, F: Fabric, R: Threads + Wait + Sync, G: Gate>(
         let z = ports_of (S.left source.new) (S.taken source.new) (K.held sink.new) (S.faults source.new) (K.faults sink.new) (F.faults fabric.new) in
         HasCause (status_after result.1) result.0 x z }
     ensures status { F.flight fabric.old ≡ Some [] → F.trace fabric.old ≡ Some [] → IsStatus (status_after result.1) }
-    ensures shown { IfErr result.1 (λ fault. IsShownIn fault result.0) }
+    ensures shown { IfErr result.1 (λ fault. IsShownIn fault result.0 (F.latest fabric.new)) }
     ensures lawful { IfSome result.0 IsLawful }
     ensures carrying { F.flight fabric.old ≡ Some [] → F.trace fabric.old ≡ Some [] → IfSome result.0 (λ w. Carries w (F.flight fabric.new) (F.trace fabric.new)) }
+    ensures hears { IfSome result.0 (λ w. IsLatest w.hand (F.latest fabric.new)) }
     ensures ended { OnOk result.1 (IfSome result.0 HasEnded) }
     ensures there { result.1 ≡ Err SessionFault.JournalFull → result.0 ≢ None }
     ensures none { result.0 ≡ None → (source.new ≡ source.old) × (fabric.new ≡ fabric.old)
@@ -311,7 +316,7 @@ pub fn run<S: Source, K: Sink, E: Sink, F: Fabric, R: Threads + Wait + Sync, G: 
         × Says (status_line result.status) (record { text = E.held err.old; faults = E.faults err.old }) (record { text = E.held err.new; faults = E.faults err.new }) }
     ensures silent { result.status ≡ 0 → err.new ≡ err.old }
     ensures no_other { F.flight fabric ≡ Some [] → F.trace fabric ≡ Some [] → IsStatus result.status }
-    ensures fault { TellsBreach result.status result.fault result.world }
+    ensures fault { TellsBreach result.status result.fault result.world (F.latest result.fabric) }
     ensures none { result.world ≡ None → (source.new ≡ source.old) × (result.fabric ≡ fabric)
         × (notice_in words.now ≡ None → (sink.new ≡ sink.old) × ((result.status ≡ 1) ⊎ (result.status ≡ 6))) }
     ensures uncut { result.world ≡ None → result.cuts.items ≡ [] }
@@ -328,6 +333,7 @@ pub fn run<S: Source, K: Sink, E: Sink, F: Fabric, R: Threads + Wait + Sync, G: 
         F.flight fabric ≡ Some [] → F.trace fabric ≡ Some [] → bad_word words.now ≡ None → NothingFailed result.world x z → (result.status ≡ 0) ⊎ (result.status ≡ 6) }
     ensures lawful { IfSome result.world IsLawful }
     ensures carrying { F.flight fabric ≡ Some [] → F.trace fabric ≡ Some [] → IfSome result.world (λ w. Carries w (F.flight result.fabric) (F.trace result.fabric)) }
+    ensures hears { IfSome result.world (λ w. IsLatest w.hand (F.latest result.fabric)) }
     ensures ended { result.status ≡ 0 → IfSome result.world HasEnded }
 {
     let request = match request_in(words) {

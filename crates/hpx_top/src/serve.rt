@@ -6,6 +6,7 @@ ghost use Rattle.hpx_journal.specs.Pool.{prints_of};
 ghost use Rattle.hpx_journal.specs.Weights.{HasRoom};
 ghost use Rattle.hpx_ports.specs.Faults.{Rose};
 ghost use Rattle.hpx_ports.specs.Told.{followed};
+ghost use Rattle.hpx_world.specs.Heard.{KeepsLatest};
 ghost use Rattle.hpx_top.specs.Breaches.{IsShown, NoBreach};
 ghost use Rattle.hpx_world.specs.Quiet.{IsQuiet, NoneRuns};
 ghost use Rattle.hpx_world.specs.Steps.{IsUnfed};
@@ -52,6 +53,7 @@ fn serve_text<K: Sink, F: Fabric, R: Threads + Wait + Sync, G: Gate>(
     requires jobs { NoneRuns world.old.nodes }
 
     ensures carrying { Carries world.old (F.flight fabric.old) (F.trace fabric.old) → Carries world.new (F.flight fabric.new) (F.trace fabric.new) }
+    ensures hears { KeepsLatest world.old.hand (F.latest fabric.old) world.new.hand (F.latest fabric.new) }
     ensures count { length world.new.nodes ≡ length world.old.nodes }
     ensures profile { world.new.profile ≡ world.old.profile }
     ensures served { OnOk result (IsServed console (rules world.old) line.now progress.old.held progress.new.held progress.old.cuts.items progress.new.cuts.items
@@ -66,7 +68,7 @@ fn serve_text<K: Sink, F: Fabric, R: Threads + Wait + Sync, G: Gate>(
     ensures fabric { result ≡ Err SessionFault.Fabric → Rose (F.faults fabric.old) (F.faults fabric.new) }
     ensures full { result ≡ Err SessionFault.JournalFull → HasRoom world.new.journal.entries → ⊥ }
     ensures room { HasRoom world.old.journal.entries → result ≢ Err SessionFault.JournalFull → HasRoom world.new.journal.entries }
-    ensures shown { IfErr result (λ fault. IsShown fault world.new) }
+    ensures shown { IfErr result (λ fault. IsShown fault world.new (F.latest fabric.new)) }
     ensures told { Carries world.old (F.flight fabric.old) (F.trace fabric.old) → IfErr result NoBreach }
     ensures write_only { result ≢ Err SessionFault.Write → K.faults sink.new ≡ K.faults sink.old }
     ensures fabric_only { result ≢ Err SessionFault.Fabric → F.faults fabric.new ≡ F.faults fabric.old }
@@ -145,6 +147,7 @@ fn serve_line<S: Source, K: Sink, F: Fabric, R: Threads + Wait + Sync, G: Gate>(
     ensures rest { OnOk result (progress.new.held ≡ false → IsRested world.new) }
     ensures jobs { OnOk result (NoneRuns world.new.nodes) }
     ensures carrying { Carries world.old (F.flight fabric.old) (F.trace fabric.old) → Carries world.new (F.flight fabric.new) (F.trace fabric.new) }
+    ensures hears { KeepsLatest world.old.hand (F.latest fabric.old) world.new.hand (F.latest fabric.new) }
     ensures count { length world.new.nodes ≡ length world.old.nodes }
     ensures profile { world.new.profile ≡ world.old.profile }
     ensures fewer { result ≡ Ok true → bytes_left reader.new < bytes_left reader.old }
@@ -158,7 +161,7 @@ fn serve_line<S: Source, K: Sink, F: Fabric, R: Threads + Wait + Sync, G: Gate>(
     ensures full_input { result ≡ Err SessionFault.InputFull → reader.new.read ≡ 67108864 }
     ensures out { result ≡ Err SessionFault.OutOfMemory → IsOut reader.new (input_left reader.old (S.left source.old)) (S.left source.new) → ⊥ }
     ensures read_only { result ≢ Err SessionFault.Read → S.faults source.new ≡ S.faults source.old }
-    ensures shown { IfErr result (λ fault. IsShown fault world.new) }
+    ensures shown { IfErr result (λ fault. IsShown fault world.new (F.latest fabric.new)) }
     ensures told { Carries world.old (F.flight fabric.old) (F.trace fabric.old) → IfErr result NoBreach }
     ensures write_only { result ≢ Err SessionFault.Write → K.faults sink.new ≡ K.faults sink.old }
     ensures fabric_only { result ≢ Err SessionFault.Fabric → F.faults fabric.new ≡ F.faults fabric.old }
@@ -194,6 +197,7 @@ fn let_go<K: Sink, F: Fabric, R: Threads + Wait + Sync, G: Gate>(
     requires jobs { NoneRuns world.old.nodes }
 
     ensures carrying { Carries world.old (F.flight fabric.old) (F.trace fabric.old) → Carries world.new (F.flight fabric.new) (F.trace fabric.new) }
+    ensures hears { KeepsLatest world.old.hand (F.latest fabric.old) world.new.hand (F.latest fabric.new) }
     ensures count { length world.new.nodes ≡ length world.old.nodes }
     ensures profile { world.new.profile ≡ world.old.profile }
     ensures unfed { IsUnfed world.old.journal.entries world.new.journal.entries }
@@ -206,7 +210,7 @@ fn let_go<K: Sink, F: Fabric, R: Threads + Wait + Sync, G: Gate>(
     ensures fabric { result ≡ Err SessionFault.Fabric → Rose (F.faults fabric.old) (F.faults fabric.new) }
     ensures full { result ≡ Err SessionFault.JournalFull → HasRoom world.new.journal.entries → ⊥ }
     ensures room { HasRoom world.old.journal.entries → result ≢ Err SessionFault.JournalFull → HasRoom world.new.journal.entries }
-    ensures shown { IfErr result (λ fault. IsShown fault world.new) }
+    ensures shown { IfErr result (λ fault. IsShown fault world.new (F.latest fabric.new)) }
     ensures told { Carries world.old (F.flight fabric.old) (F.trace fabric.old) → IfErr result NoBreach }
     ensures write_only { result ≢ Err SessionFault.Write → K.faults sink.new ≡ K.faults sink.old }
     ensures fabric_only { result ≢ Err SessionFault.Fabric → F.faults fabric.new ≡ F.faults fabric.old }
@@ -253,6 +257,7 @@ fn serve_lines<S: Source, K: Sink, F: Fabric, R: Threads + Wait + Sync, G: Gate>
 
     ensures rest { OnOk result (IsRested world.new) }
     ensures carrying { Carries world.old (F.flight fabric.old) (F.trace fabric.old) → Carries world.new (F.flight fabric.new) (F.trace fabric.new) }
+    ensures hears { KeepsLatest world.old.hand (F.latest fabric.old) world.new.hand (F.latest fabric.new) }
     ensures count { length world.new.nodes ≡ length world.old.nodes }
     ensures profile { world.new.profile ≡ world.old.profile }
 
@@ -262,7 +267,7 @@ fn serve_lines<S: Source, K: Sink, F: Fabric, R: Threads + Wait + Sync, G: Gate>
     ensures full { result ≡ Err SessionFault.JournalFull → HasRoom world.new.journal.entries → ⊥ }
     ensures room { result ≢ Err SessionFault.JournalFull → HasRoom world.new.journal.entries }
     ensures read_only { result ≢ Err SessionFault.Read → S.faults source.new ≡ S.faults source.old }
-    ensures shown { IfErr result (λ fault. IsShown fault world.new) }
+    ensures shown { IfErr result (λ fault. IsShown fault world.new (F.latest fabric.new)) }
     ensures told { Carries world.old (F.flight fabric.old) (F.trace fabric.old) → IfErr result NoBreach }
     ensures write_only { result ≢ Err SessionFault.Write → K.faults sink.new ≡ K.faults sink.old }
     ensures fabric_only { result ≢ Err SessionFault.Fabric → F.faults fabric.new ≡ F.faults fabric.old }
@@ -307,10 +312,11 @@ pub fn serve<S: Source, K: Sink, F: Fabric, R: Threads + Wait + Sync, G: Gate>(
         let z = ports_of (S.left source.new) (S.taken source.new) (K.held sink.new) (S.faults source.new) (K.faults sink.new) (F.faults fabric.new) in
         HasCause (status_after result.1) (Some world.new) x z }
     ensures status { Carries world.old (F.flight fabric.old) (F.trace fabric.old) → IsStatus (status_after result.1) }
-    ensures shown { IfErr result.1 (λ fault. IsShown fault world.new) }
+    ensures shown { IfErr result.1 (λ fault. IsShown fault world.new (F.latest fabric.new)) }
     ensures few { length result.0.items ≤ 67108865 }
     ensures rest { OnOk result.1 (IsRested world.new) }
     ensures carrying { Carries world.old (F.flight fabric.old) (F.trace fabric.old) → Carries world.new (F.flight fabric.new) (F.trace fabric.new) }
+    ensures hears { KeepsLatest world.old.hand (F.latest fabric.old) world.new.hand (F.latest fabric.new) }
     ensures count { length world.new.nodes ≡ length world.old.nodes }
     ensures profile { world.new.profile ≡ world.old.profile }
 {

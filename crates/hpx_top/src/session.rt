@@ -7,6 +7,7 @@ ghost use Rattle.hpx_journal.specs.Whole.{IsCarried};
 ghost use Rattle.hpx_hold.specs.Home.{GrowsAtHome};
 ghost use Rattle.hpx_ports.specs.Faults.{Rose};
 ghost use Rattle.hpx_ports.specs.Told.{followed};
+ghost use Rattle.hpx_world.specs.Heard.{KeepsLatest};
 ghost use Rattle.hpx_top.specs.Breaches.{breach_in, breach_of, IsOfTurn, IsShown, NoBreach};
 ghost use Rattle.hpx_world.specs.Promises.{KeepsPromises};
 ghost use Rattle.hpx_world.specs.Quiet.{IsQuiet, NoneRuns};
@@ -177,6 +178,7 @@ pub(crate) fn begin<F: Fabric>(
     requires short { length text ≤ 1025 }
 
     ensures carrying { Carries world.old (F.flight fabric.old) (F.trace fabric.old) → Carries world.new (F.flight fabric.new) (F.trace fabric.new) }
+    ensures hears { KeepsLatest world.old.hand (F.latest fabric.old) world.new.hand (F.latest fabric.new) }
     ensures count { length world.new.nodes ≡ length world.old.nodes }
     ensures profile { world.new.profile ≡ world.old.profile }
     ensures fed { OnOk result ((turned : Turned) × DidFeed text turned world.old.nodes world.new.nodes world.old.journal.entries world.new.journal.entries) }
@@ -205,6 +207,7 @@ pub(crate) fn settle<F: Fabric, R: Threads + Wait + Sync, G: Gate>(
     fabric: &mut F,
 ) -> Result<(), SessionFault>
     ensures carrying { Carries world.old (F.flight fabric.old) (F.trace fabric.old) → Carries world.new (F.flight fabric.new) (F.trace fabric.new) }
+    ensures hears { KeepsLatest world.old.hand (F.latest fabric.old) world.new.hand (F.latest fabric.new) }
     ensures count { length world.new.nodes ≡ length world.old.nodes }
     ensures profile { world.new.profile ≡ world.old.profile }
     ensures unfed { IsUnfed world.old.journal.entries world.new.journal.entries }
@@ -214,7 +217,7 @@ pub(crate) fn settle<F: Fabric, R: Threads + Wait + Sync, G: Gate>(
     ensures fabric { result ≡ Err SessionFault.Fabric → Rose (F.faults fabric.old) (F.faults fabric.new) }
     ensures full { result ≡ Err SessionFault.JournalFull → HasRoom world.new.journal.entries → ⊥ }
     ensures room { result ≢ Err SessionFault.JournalFull → HasRoom world.new.journal.entries }
-    ensures cause { IfErr result (λ fault. IsOfTurn fault world.new) }
+    ensures cause { IfErr result (λ fault. IsOfTurn fault world.new (F.latest fabric.new)) }
     ensures told { Carries world.old (F.flight fabric.old) (F.trace fabric.old) → IfErr result NoBreach }
     ensures stands { result ≢ Err SessionFault.Fabric → F.faults fabric.new ≡ F.faults fabric.old }
 {
@@ -243,6 +246,7 @@ pub(crate) fn feed<F: Fabric, R: Threads + Wait + Sync, G: Gate>(
     requires quiet { IsQuiet world.old.nodes world.old.hand }
 
     ensures carrying { Carries world.old (F.flight fabric.old) (F.trace fabric.old) → Carries world.new (F.flight fabric.new) (F.trace fabric.new) }
+    ensures hears { KeepsLatest world.old.hand (F.latest fabric.old) world.new.hand (F.latest fabric.new) }
     ensures count { length world.new.nodes ≡ length world.old.nodes }
     ensures profile { world.new.profile ≡ world.old.profile }
     ensures fed { OnOk result (Feeds (rules world.old) text world.old.journal.entries world.new.journal.entries) }
@@ -253,7 +257,7 @@ pub(crate) fn feed<F: Fabric, R: Threads + Wait + Sync, G: Gate>(
     ensures full { result ≡ Err SessionFault.JournalFull → HasRoom world.new.journal.entries → ⊥ }
     ensures room { result ≢ Err SessionFault.JournalFull → HasRoom world.new.journal.entries }
     ensures other { (result ≢ Err SessionFault.Read) × (result ≢ Err SessionFault.Write) × (result ≢ Err SessionFault.InputFull) }
-    ensures shown { IfErr result (λ fault. IsShown fault world.new) }
+    ensures shown { IfErr result (λ fault. IsShown fault world.new (F.latest fabric.new)) }
     ensures told { Carries world.old (F.flight fabric.old) (F.trace fabric.old) → IfErr result NoBreach }
     ensures stands { result ≢ Err SessionFault.Fabric → F.faults fabric.new ≡ F.faults fabric.old }
 {
@@ -271,6 +275,7 @@ fn make_accumulator<F: Fabric, R: Threads + Wait + Sync, G: Gate>(
     requires quiet { IsQuiet world.old.nodes world.old.hand }
 
     ensures carrying { Carries world.old (F.flight fabric.old) (F.trace fabric.old) → Carries world.new (F.flight fabric.new) (F.trace fabric.new) }
+    ensures hears { KeepsLatest world.old.hand (F.latest fabric.old) world.new.hand (F.latest fabric.new) }
     ensures count { length world.new.nodes ≡ length world.old.nodes }
     ensures profile { world.new.profile ≡ world.old.profile }
     ensures fed { OnOk result (Feeds (rules world.old) opening world.old.journal.entries world.new.journal.entries) }
@@ -281,7 +286,7 @@ fn make_accumulator<F: Fabric, R: Threads + Wait + Sync, G: Gate>(
     ensures full { result ≡ Err SessionFault.JournalFull → HasRoom world.new.journal.entries → ⊥ }
     ensures room { HasRoom world.old.journal.entries → result ≢ Err SessionFault.JournalFull → HasRoom world.new.journal.entries }
     ensures other { (result ≢ Err SessionFault.Read) × (result ≢ Err SessionFault.Write) × (result ≢ Err SessionFault.InputFull) }
-    ensures shown { IfErr result (λ fault. IsShown fault world.new) }
+    ensures shown { IfErr result (λ fault. IsShown fault world.new (F.latest fabric.new)) }
     ensures told { Carries world.old (F.flight fabric.old) (F.trace fabric.old) → IfErr result NoBreach }
     ensures stands { result ≢ Err SessionFault.Fabric → F.faults fabric.new ≡ F.faults fabric.old }
 {
@@ -303,6 +308,7 @@ pub(crate) fn open<F: Fabric, R: Threads + Wait + Sync, G: Gate>(
     requires quiet { IsQuiet world.old.nodes world.old.hand }
 
     ensures carrying { Carries world.old (F.flight fabric.old) (F.trace fabric.old) → Carries world.new (F.flight fabric.new) (F.trace fabric.new) }
+    ensures hears { KeepsLatest world.old.hand (F.latest fabric.old) world.new.hand (F.latest fabric.new) }
     ensures count { length world.new.nodes ≡ length world.old.nodes }
     ensures profile { world.new.profile ≡ world.old.profile }
     ensures opened { OnOk result (HasOpened console (rules world.old) world.old.journal.entries world.new.journal.entries) }
@@ -314,7 +320,7 @@ pub(crate) fn open<F: Fabric, R: Threads + Wait + Sync, G: Gate>(
     ensures full { result ≡ Err SessionFault.JournalFull → HasRoom world.new.journal.entries → ⊥ }
     ensures room { HasRoom world.old.journal.entries → result ≢ Err SessionFault.JournalFull → HasRoom world.new.journal.entries }
     ensures other { (result ≢ Err SessionFault.Read) × (result ≢ Err SessionFault.Write) × (result ≢ Err SessionFault.InputFull) }
-    ensures shown { IfErr result (λ fault. IsShown fault world.new) }
+    ensures shown { IfErr result (λ fault. IsShown fault world.new (F.latest fabric.new)) }
     ensures told { Carries world.old (F.flight fabric.old) (F.trace fabric.old) → IfErr result NoBreach }
     ensures stands { result ≢ Err SessionFault.Fabric → F.faults fabric.new ≡ F.faults fabric.old }
 {

@@ -6,6 +6,7 @@ ghost use Rattle.hpx_hold.specs.Home.{GrowsAtHome, WaitsBusy};
 ghost use Rattle.hpx_hold.specs.Turns.{MakesTurns};
 ghost use Rattle.hpx_own.specs.Lines.{handled_as};
 ghost use Rattle.hpx_ports.specs.Faults.{Rose};
+ghost use Rattle.hpx_world.specs.Heard.{KeepsLatest};
 ghost use Rattle.hpx_top.specs.Breaches.{IsOfTurn, NoBreach};
 ghost use Rattle.hpx_world.specs.Quiet.{NoneRuns};
 ghost use Rattle.hpx_world.specs.Steps.{IsUnfed};
@@ -38,6 +39,7 @@ fn stay<F: Fabric>(
     fabric: &mut F,
 ) -> Result<(), SessionFault>
     ensures carrying { Carries world.old (F.flight fabric.old) (F.trace fabric.old) → Carries world.new (F.flight fabric.new) (F.trace fabric.new) }
+    ensures hears { KeepsLatest world.old.hand (F.latest fabric.old) world.new.hand (F.latest fabric.new) }
     ensures count { length world.new.nodes ≡ length world.old.nodes }
     ensures profile { world.new.profile ≡ world.old.profile }
     ensures home { GrowsAtHome world.old.journal.entries world.new.journal.entries }
@@ -48,7 +50,7 @@ fn stay<F: Fabric>(
 
     ensures full { result ≡ Err SessionFault.JournalFull → HasRoom world.new.journal.entries → ⊥ }
     ensures room { result ≢ Err SessionFault.JournalFull → HasRoom world.new.journal.entries }
-    ensures cause { IfErr result (λ fault. (fault ≢ SessionFault.Fabric) × IsOfTurn fault world.new) }
+    ensures cause { IfErr result (λ fault. (fault ≢ SessionFault.Fabric) × IsOfTurn fault world.new (F.latest fabric.new)) }
     ensures told { Carries world.old (F.flight fabric.old) (F.trace fabric.old) → IfErr result NoBreach }
 {
     match stay_home(alloc, world, fabric) {
@@ -67,6 +69,7 @@ fn go_on<F: Fabric>(
     requires jobs { NoneRuns world.old.nodes }
 
     ensures carrying { Carries world.old (F.flight fabric.old) (F.trace fabric.old) → Carries world.new (F.flight fabric.new) (F.trace fabric.new) }
+    ensures hears { KeepsLatest world.old.hand (F.latest fabric.old) world.new.hand (F.latest fabric.new) }
     ensures count { length world.new.nodes ≡ length world.old.nodes }
     ensures profile { world.new.profile ≡ world.old.profile }
     ensures turns { OnOk result ((made : ℕ) × MakesTurns (rules world.old) most made world.old.journal.entries world.new.journal.entries) }
@@ -76,7 +79,7 @@ fn go_on<F: Fabric>(
     ensures fabric { result ≡ Err SessionFault.Fabric → Rose (F.faults fabric.old) (F.faults fabric.new) }
     ensures full { result ≡ Err SessionFault.JournalFull → HasRoom world.new.journal.entries → ⊥ }
     ensures room { result ≢ Err SessionFault.JournalFull → HasRoom world.new.journal.entries }
-    ensures cause { IfErr result (λ fault. IsOfTurn fault world.new) }
+    ensures cause { IfErr result (λ fault. IsOfTurn fault world.new (F.latest fabric.new)) }
     ensures told { Carries world.old (F.flight fabric.old) (F.trace fabric.old) → IfErr result NoBreach }
     ensures stands { result ≢ Err SessionFault.Fabric → F.faults fabric.new ≡ F.faults fabric.old }
 {
@@ -96,6 +99,7 @@ fn take_turns<F: Fabric>(
     requires jobs { NoneRuns world.old.nodes }
 
     ensures carrying { Carries world.old (F.flight fabric.old) (F.trace fabric.old) → Carries world.new (F.flight fabric.new) (F.trace fabric.new) }
+    ensures hears { KeepsLatest world.old.hand (F.latest fabric.old) world.new.hand (F.latest fabric.new) }
     ensures count { length world.new.nodes ≡ length world.old.nodes }
     ensures profile { world.new.profile ≡ world.old.profile }
     ensures turned { OnOk result (GrowsBy (IsTurned (rules world.old) most world.old.journal.entries) world.old.journal.entries world.new.journal.entries) }
@@ -105,7 +109,7 @@ fn take_turns<F: Fabric>(
     ensures fabric { result ≡ Err SessionFault.Fabric → Rose (F.faults fabric.old) (F.faults fabric.new) }
     ensures full { result ≡ Err SessionFault.JournalFull → HasRoom world.new.journal.entries → ⊥ }
     ensures room { result ≢ Err SessionFault.JournalFull → HasRoom world.new.journal.entries }
-    ensures cause { IfErr result (λ fault. IsOfTurn fault world.new) }
+    ensures cause { IfErr result (λ fault. IsOfTurn fault world.new (F.latest fabric.new)) }
     ensures told { Carries world.old (F.flight fabric.old) (F.trace fabric.old) → IfErr result NoBreach }
     ensures stands { result ≢ Err SessionFault.Fabric → F.faults fabric.new ≡ F.faults fabric.old }
 {
@@ -128,6 +132,7 @@ fn feed_line<F: Fabric, R: Threads + Wait + Sync, G: Gate>(
     requires jobs { NoneRuns world.old.nodes }
 
     ensures carrying { Carries world.old (F.flight fabric.old) (F.trace fabric.old) → Carries world.new (F.flight fabric.new) (F.trace fabric.new) }
+    ensures hears { KeepsLatest world.old.hand (F.latest fabric.old) world.new.hand (F.latest fabric.new) }
     ensures count { length world.new.nodes ≡ length world.old.nodes }
     ensures profile { world.new.profile ≡ world.old.profile }
     ensures did { OnOk result (GrowsBy (Does (rules world.old) (mark_of console ∷ line.now) held (Typed Handled.Fed) world.old.journal.entries) world.old.journal.entries world.new.journal.entries) }
@@ -138,7 +143,7 @@ fn feed_line<F: Fabric, R: Threads + Wait + Sync, G: Gate>(
     ensures fabric { result ≡ Err SessionFault.Fabric → Rose (F.faults fabric.old) (F.faults fabric.new) }
     ensures full { result ≡ Err SessionFault.JournalFull → HasRoom world.new.journal.entries → ⊥ }
     ensures room { HasRoom world.old.journal.entries → result ≢ Err SessionFault.JournalFull → HasRoom world.new.journal.entries }
-    ensures cause { IfErr result (λ fault. IsOfTurn fault world.new) }
+    ensures cause { IfErr result (λ fault. IsOfTurn fault world.new (F.latest fabric.new)) }
     ensures told { Carries world.old (F.flight fabric.old) (F.trace fabric.old) → IfErr result NoBreach }
     ensures stands { result ≢ Err SessionFault.Fabric → F.faults fabric.new ≡ F.faults fabric.old }
 {
@@ -171,6 +176,7 @@ pub(crate) fn handle<F: Fabric, R: Threads + Wait + Sync, G: Gate>(
     requires jobs { NoneRuns world.old.nodes }
 
     ensures carrying { Carries world.old (F.flight fabric.old) (F.trace fabric.old) → Carries world.new (F.flight fabric.new) (F.trace fabric.new) }
+    ensures hears { KeepsLatest world.old.hand (F.latest fabric.old) world.new.hand (F.latest fabric.new) }
     ensures count { length world.new.nodes ≡ length world.old.nodes }
     ensures profile { world.new.profile ≡ world.old.profile }
     ensures did { OnOk result (GrowsBy (Does (rules world.old) (mark_of console ∷ line.now) progress.now.held (Typed handled) world.old.journal.entries) world.old.journal.entries world.new.journal.entries) }
@@ -181,7 +187,7 @@ pub(crate) fn handle<F: Fabric, R: Threads + Wait + Sync, G: Gate>(
     ensures fabric { result ≡ Err SessionFault.Fabric → Rose (F.faults fabric.old) (F.faults fabric.new) }
     ensures full { result ≡ Err SessionFault.JournalFull → HasRoom world.new.journal.entries → ⊥ }
     ensures room { HasRoom world.old.journal.entries → result ≢ Err SessionFault.JournalFull → HasRoom world.new.journal.entries }
-    ensures cause { IfErr result (λ fault. IsOfTurn fault world.new) }
+    ensures cause { IfErr result (λ fault. IsOfTurn fault world.new (F.latest fabric.new)) }
     ensures told { Carries world.old (F.flight fabric.old) (F.trace fabric.old) → IfErr result NoBreach }
     ensures stands { result ≢ Err SessionFault.Fabric → F.faults fabric.new ≡ F.faults fabric.old }
 {

@@ -21,6 +21,7 @@ pub mod Handed
 pub mod Promised
 pub mod Rested
 pub mod Taken
+pub mod Heard
 pub mod FewFrames
 pub mod Turned
 pub mod Found

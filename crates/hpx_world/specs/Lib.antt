@@ -1,6 +1,7 @@
 pub mod Places
 pub mod Sound
 pub mod Away
+pub mod Heard
 pub mod Quiet
 pub mod Promises
 pub mod Turns

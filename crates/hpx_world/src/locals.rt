@@ -11,6 +11,9 @@ ghost use Rattle.hpx_ports.specs.Faults.{Rose};
 ghost use Rattle.hpx_node.specs.Locality.{tables_of};
 ghost use Rattle.hpx_world.specs.Sound.{IsSound, IsSame, DoneAt};
 ghost use Rattle.hpx_world.specs.Away.{IsCarrying, IsInside, Fetches, Puts, Keeps};
+ghost use Rattle.hpx_world.specs.Heard.{HearsTurn, KeepsLatest};
+ghost use Rattle.hpx_ports.specs.declared.link.Latest.{Latest};
+ghost use Rattle.hpx_world.specs.declared.turns.Choice.{Choice};
 ghost use Rattle.hpx_world.specs.Quiet.{IsQuiet, NoneRuns, running_in};
 ghost use Rattle.hpx_world.specs.Turns.{DidFeed, DidFire, DidFinish, DidDesk, DidPump, DidTake, IsBadFrame, IsStrangeFrame, IsStrangeMail, HasToTend, HasToFire, HasToSend, HasJob, IsFarFault, IsRightFrame, HoldsBadFrame, HoldsStrangeFrame, HoldsRightFrame};
 
@@ -304,6 +307,7 @@ impl<A: Acts + Copy> Locals<A> {
         ensures waits { OnErr result (HasToSend (tables_of self.old.nodes.items) k) }
         ensures which { IfErr result (λ e. (e ≡ WorldFault.Fabric) ⊎ (e ≡ WorldFault.OutOfMemory None)) }
         ensures apart_empty { result ≡ Ok Turned.Empty → fabric.new ≡ fabric.old }
+        ensures hears { KeepsLatest self.old.hand (F.latest fabric.old) self.new.hand (F.latest fabric.new) }
         ensures cause { result ≡ Err WorldFault.Fabric → Rose (F.faults fabric.old) (F.faults fabric.new) }
         ensures stands { result ≢ Err WorldFault.Fabric → F.faults fabric.new ≡ F.faults fabric.old }
     {
@@ -365,6 +369,8 @@ impl<A: Acts + Copy> Locals<A> {
         ensures ok { OnOk result (Fetches self.old.hand (F.flight fabric.old) (F.flight fabric.new) (F.trace fabric.old) (F.trace fabric.new) self.new.hand) }
         ensures err { OnErr result ((self.new.hand ≡ self.old.hand) × (F.flight fabric.new ≡ F.flight fabric.old) × (F.trace fabric.new ≡ F.trace fabric.old)) }
         ensures none { OnErr result (self.new.hand ≡ None) }
+        ensures hears { KeepsLatest self.old.hand (F.latest fabric.old) self.new.hand (F.latest fabric.new) }
+        ensures finds { OnOk result (self.new.hand ≡ None → F.latest fabric.new ≡ Latest.Nothing) }
         ensures memory { result ≡ Err FabricFault.OutOfMemory → F.flight fabric.new ≢ Some [] }
         ensures held { (frame : _) → self.old.hand ≡ Some frame → fabric.new ≡ fabric.old }
         ensures cause { result ≡ Err FabricFault.Failed → Rose (F.faults fabric.old) (F.faults fabric.new) }
@@ -429,6 +435,8 @@ impl<A: Acts + Copy> Locals<A> {
             (to : _) (at : _) (why : _) → result ≢ Err (WorldFault.BadFrame to at why) }
         ensures never_early { IsCarrying (rules_of A.act_of (length (tables_of self.old.nodes.items)) self.old.profile) self.old.hand (F.flight fabric.old) (F.trace fabric.old) self.old.journal.entries →
             (sent : _) (taken : _) → result ≢ Err (WorldFault.EarlyEnd sent taken) }
+        ensures hears { KeepsLatest self.old.hand (F.latest fabric.old) self.new.hand (F.latest fabric.new) }
+        ensures finds { HearsTurn Choice.Take result (F.latest fabric.new) }
         ensures held { (frame : _) → self.old.hand ≡ Some frame → fabric.new ≡ fabric.old }
         ensures fabric_same { result ≡ Err WorldFault.Fabric → (self.new.hand ≡ self.old.hand) × (F.flight fabric.new ≡ F.flight fabric.old) × (F.trace fabric.new ≡ F.trace fabric.old) }
         ensures cause { result ≡ Err WorldFault.Fabric → Rose (F.faults fabric.old) (F.faults fabric.new) }

@@ -4,6 +4,7 @@ ghost use Rattle.std.specs.List.{AllByRecursion};
 ghost use Rattle.hpx_journal.specs.Weights.{HasRoom};
 ghost use Rattle.hpx_world.specs.Places.{rules_in};
 ghost use Rattle.hpx_world.specs.Away.{IsCarrying, Puts};
+ghost use Rattle.hpx_world.specs.Heard.{HearsDrain, HearsEnd, HearsStep, KeepsLatest};
 ghost use Rattle.hpx_world.specs.Quiet.{IsQuiet, IsStuck, SendsNothing, NoneRuns};
 ghost use Rattle.hpx_node.specs.Handled.{HasNothingToTend};
 ghost use Rattle.hpx_world.specs.Stages.{stage};
@@ -36,6 +37,8 @@ impl<A: Acts + Copy> World<A> {
         ensures none { result ≡ Ok false → let x = stage self.old (F.flight fabric.old) (F.trace fabric.old) in
             (stage self.new (F.flight fabric.new) (F.trace fabric.new) ≡ x) × ((t : _) → slice_get x.nodes k ≡ Some t → IsStuck t) }
         ensures stops { IfErr result (λ fault. RefusedWork k fault (stage self.old (F.flight fabric.old) (F.trace fabric.old)) (stage self.new (F.flight fabric.new) (F.trace fabric.new))) }
+        ensures hears { KeepsLatest self.old.hand (F.latest fabric.old) self.new.hand (F.latest fabric.new) }
+        ensures finds { IfErr result (λ fault. HearsEnd fault (F.latest fabric.new)) }
         ensures apart { fabric.new ≡ fabric.old }
         ensures unfed { IsUnfed self.old.journal.entries self.new.journal.entries }
         ensures jobs { HandsNoJob result → NoneRuns self.old.nodes → NoneRuns self.new.nodes }
@@ -70,6 +73,8 @@ impl<A: Acts + Copy> World<A> {
         ensures none { result ≡ Ok false → let x = stage self.old (F.flight fabric.old) (F.trace fabric.old) in
             (stage self.new (F.flight fabric.new) (F.trace fabric.new) ≡ x) × NoneFires x }
         ensures stops { IfErr result (λ fault. RefusedStep fault (stage self.old (F.flight fabric.old) (F.trace fabric.old)) (stage self.new (F.flight fabric.new) (F.trace fabric.new))) }
+        ensures hears { KeepsLatest self.old.hand (F.latest fabric.old) self.new.hand (F.latest fabric.new) }
+        ensures finds { IfErr result (λ fault. HearsEnd fault (F.latest fabric.new)) }
         ensures faults { CountsFaults result (F.faults fabric.old) (F.faults fabric.new) }
         ensures unfed { IsUnfed self.old.journal.entries self.new.journal.entries }
         ensures jobs { HandsNoJob result → NoneRuns self.old.nodes → NoneRuns self.new.nodes }
@@ -103,6 +108,8 @@ impl<A: Acts + Copy> World<A> {
         ensures none { result ≡ Ok false → let x = stage self.old (F.flight fabric.old) (F.trace fabric.old) in
             (stage self.new (F.flight fabric.new) (F.trace fabric.new) ≡ x) × NoneClears x }
         ensures stops { IfErr result (λ fault. RefusedStep fault (stage self.old (F.flight fabric.old) (F.trace fabric.old)) (stage self.new (F.flight fabric.new) (F.trace fabric.new))) }
+        ensures hears { KeepsLatest self.old.hand (F.latest fabric.old) self.new.hand (F.latest fabric.new) }
+        ensures finds { IfErr result (λ fault. HearsEnd fault (F.latest fabric.new)) }
         ensures faults { CountsFaults result (F.faults fabric.old) (F.faults fabric.new) }
         ensures unfed { IsUnfed self.old.journal.entries self.new.journal.entries }
         ensures jobs { NoneRuns self.old.nodes → NoneRuns self.new.nodes }
@@ -135,6 +142,8 @@ impl<A: Acts + Copy> World<A> {
         ensures none { result ≡ Ok false → let x = stage self.old (F.flight fabric.old) (F.trace fabric.old) in
             (stage self.new (F.flight fabric.new) (F.trace fabric.new) ≡ x) × NonePumps x }
         ensures stops { IfErr result (λ fault. RefusedStep fault (stage self.old (F.flight fabric.old) (F.trace fabric.old)) (stage self.new (F.flight fabric.new) (F.trace fabric.new))) }
+        ensures hears { KeepsLatest self.old.hand (F.latest fabric.old) self.new.hand (F.latest fabric.new) }
+        ensures finds { IfErr result (λ fault. HearsEnd fault (F.latest fabric.new)) }
         ensures faults { CountsFaults result (F.faults fabric.old) (F.faults fabric.new) }
         ensures unfed { IsUnfed self.old.journal.entries self.new.journal.entries }
         ensures jobs { NoneRuns self.old.nodes → NoneRuns self.new.nodes }
@@ -161,6 +170,8 @@ impl<A: Acts + Copy> World<A> {
         ensures did { result ≡ Ok true → DidStep A.act_of (stage self.old (F.flight fabric.old) (F.trace fabric.old)) (stage self.new (F.flight fabric.new) (F.trace fabric.new)) }
         ensures idle { result ≡ Ok false → IsIdle (stage self.old (F.flight fabric.old) (F.trace fabric.old)) (stage self.new (F.flight fabric.new) (F.trace fabric.new)) }
         ensures stops { IfErr result (λ fault. RefusedStep fault (stage self.old (F.flight fabric.old) (F.trace fabric.old)) (stage self.new (F.flight fabric.new) (F.trace fabric.new))) }
+        ensures hears { KeepsLatest self.old.hand (F.latest fabric.old) self.new.hand (F.latest fabric.new) }
+        ensures finds { HearsStep result (F.latest fabric.new) }
         ensures faults { CountsFaults result (F.faults fabric.old) (F.faults fabric.new) }
         ensures unfed { IsUnfed self.old.journal.entries self.new.journal.entries }
         ensures jobs { HandsNoJob result → NoneRuns self.old.nodes → NoneRuns self.new.nodes }
@@ -211,6 +222,8 @@ impl<A: Acts + Copy> World<A> {
             IsIdle last (stage self.new (F.flight fabric.new) (F.trace fabric.new)))) }
         ensures quiet { OnOk result (NoneRuns self.new.nodes → IsQuiet self.new.nodes self.new.hand) }
         ensures stops { IfErr result (λ fault. RefusedDrain A.act_of fault (stage self.old (F.flight fabric.old) (F.trace fabric.old)) (stage self.new (F.flight fabric.new) (F.trace fabric.new))) }
+        ensures hears { KeepsLatest self.old.hand (F.latest fabric.old) self.new.hand (F.latest fabric.new) }
+        ensures finds { HearsDrain result (F.latest fabric.new) }
         ensures faults { CountsFaults result (F.faults fabric.old) (F.faults fabric.new) }
         ensures unfed { IsUnfed self.old.journal.entries self.new.journal.entries }
         ensures jobs { HandsNoJob result → NoneRuns self.old.nodes → NoneRuns self.new.nodes }

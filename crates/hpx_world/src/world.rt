@@ -10,6 +10,7 @@ ghost use Rattle.hpx_ports.specs.Faults.{Rose};
 ghost use Rattle.hpx_world.specs.Places.{rules_in};
 ghost use Rattle.hpx_world.specs.Sound.{IsSound, IsSame};
 ghost use Rattle.hpx_world.specs.Away.{IsCarrying, Fetches, Puts, Keeps};
+ghost use Rattle.hpx_world.specs.Heard.{HearsTurn, KeepsLatest};
 ghost use Rattle.hpx_world.specs.Quiet.{IsQuiet, IsAtRest, NoneRuns, running_in};
 ghost use Rattle.hpx_world.specs.Promises.{KeepsPromises};
 ghost use Rattle.hpx_world.specs.Audit.{audit_lines, HaveRecords, AreOrdered, StandWhereTold, IsAudit};
@@ -191,6 +192,8 @@ impl<A: Acts + Copy> World<A> {
         ensures stops { IfErr result (λ fault. Refused choice fault (stage self.old (F.flight fabric.old) (F.trace fabric.old)) (stage self.new (F.flight fabric.new) (F.trace fabric.new))) }
         ensures apart { IsApart choice result (stage self.old (F.flight fabric.old) (F.trace fabric.old)) → fabric.new ≡ fabric.old }
         ensures faults { CountsFaults result (F.faults fabric.old) (F.faults fabric.new) }
+        ensures hears { KeepsLatest self.old.hand (F.latest fabric.old) self.new.hand (F.latest fabric.new) }
+        ensures finds { HearsTurn choice result (F.latest fabric.new) }
         ensures turn { AddsATurn self.old.journal.entries self.new.journal.entries }
         ensures unfed { FeedsNoLine choice → IsUnfed self.old.journal.entries self.new.journal.entries }
         ensures jobs { RunsNothing choice → running_in self.new.nodes ≡ running_in self.old.nodes }

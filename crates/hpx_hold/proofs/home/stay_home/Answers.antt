@@ -18,6 +18,7 @@ loop-preserved g c =
       count = c.turn_at_home.ensures.count ∙ i.count;
       profile = c.turn_at_home.ensures.profile ∙ i.profile;
       apart = c.turn_at_home.ensures.apart ∙ i.apart;
+      hears = λ h. c.turn_at_home.ensures.hears (i.hears h);
       goes = record {
         between = stage c.loop.world (g.F.Fabric.flight c.loop.fabric) (g.F.Fabric.trace c.loop.fabric) ∷ i.goes.between;
         turns = (i.goes.turns, c.in_ok-turn_at_home.ensures.did (ap (λ b. Ok b) c.if-branch.true));

@@ -1,5 +1,6 @@
 use Rattle.std.proofs.Common.{◌≡◌, ◌-◌, length}
 use Rattle.hpx_world.specs.Away.{IsCarrying}
+use Rattle.hpx_world.specs.Heard.{KeepsLatest}
 use Rattle.hpx_world.specs.Places.{rules_in}
 use Rattle.hpx_world.specs.Quiet.{NoneRuns}
 use Rattle.hpx_world.specs.Stages.{stage}
@@ -14,6 +15,7 @@ invariant-loop g l = record {
   count : length l.world.nodes ≡ length l.fn.world.nodes;
   profile : l.world.profile ≡ l.fn.world.profile;
   apart : l.fabric ≡ l.fn.fabric;
+  hears : KeepsLatest l.fn.world.hand (g.F.Fabric.latest l.fn.fabric) l.world.hand (g.F.Fabric.latest l.fabric);
   goes : HomeTo g.A.Acts.act_of (stage l.fn.world (g.F.Fabric.flight l.fn.fabric) (g.F.Fabric.trace l.fn.fabric)) (stage l.world (g.F.Fabric.flight l.fabric) (g.F.Fabric.trace l.fabric));
   home : GrowsAtHome l.fn.world.journal.entries l.world.journal.entries;
   unfed : IsUnfed l.fn.world.journal.entries l.world.journal.entries;

@@ -19,6 +19,7 @@ loop-made-preserved g c =
         steps = (i.goes.steps, c.in_ok-step.ensures.did (ap (λ b. Ok b) c.if-not-branch.false));
         count = omega (arith, i.goes.count);
       };
+      hears = λ h. c.step.ensures.hears (i.hears h);
       faults = c.in_ok-step.ensures.faults ∙ i.faults;
       unfed = unfed_then _ _ _ i.unfed c.step.ensures.unfed;
       jobs = λ none. c.in_ok-step.ensures.jobs tt (i.jobs none);

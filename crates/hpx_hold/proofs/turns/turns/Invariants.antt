@@ -1,5 +1,6 @@
 use Rattle.std.proofs.Common.{◌≡◌, length}
 use Rattle.hpx_world.specs.Away.{IsCarrying}
+use Rattle.hpx_world.specs.Heard.{KeepsLatest}
 use Rattle.hpx_world.specs.Places.{rules_in}
 use Rattle.hpx_world.specs.Quiet.{NoneRuns}
 use Rattle.hpx_world.specs.Stages.{stage}
@@ -13,6 +14,7 @@ invariant-loop-made g l = record {
   count : length l.world.nodes ≡ length l.fn.world.nodes;
   profile : l.world.profile ≡ l.fn.world.profile;
   goes : StepsTo g.A.Acts.act_of l.made (stage l.fn.world (g.F.Fabric.flight l.fn.fabric) (g.F.Fabric.trace l.fn.fabric)) (stage l.world (g.F.Fabric.flight l.fabric) (g.F.Fabric.trace l.fabric));
+  hears : KeepsLatest l.fn.world.hand (g.F.Fabric.latest l.fn.fabric) l.world.hand (g.F.Fabric.latest l.fabric);
   faults : g.F.Fabric.faults l.fabric ≡ g.F.Fabric.faults l.fn.fabric;
   unfed : IsUnfed l.fn.world.journal.entries l.world.journal.entries;
   jobs : NoneRuns l.fn.world.nodes → NoneRuns l.world.nodes;

@@ -22,4 +22,4 @@ returns-in-Ok-clause-told g c = λ words notice told asked.
     (printed.0, inr printed.1)
 
 pub returns-in-Err-clause-fault : goal.returns-in-Err-clause-fault
-returns-in-Err-clause-fault g c = no_breach_told 6 None (omega arith) (omega arith)
+returns-in-Err-clause-fault g c = no_breach_told 6 None _ (omega arith) (omega arith)

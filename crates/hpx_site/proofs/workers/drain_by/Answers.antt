@@ -8,5 +8,5 @@ returns-clause-room g c = on_ok_weaker c.drain.result (λ goes. idle_room goes.l
 pub returns-clause-held : goal.returns-clause-held
 returns-clause-held g c =
     drained _ _ _ _ c.in_default.ensures.held
-    (record { localities = c.drain.ensures.count; profile = c.drain.ensures.profile; unfed = c.drain.ensures.unfed; carrying = c.drain.ensures.carrying })
-    c.drain.result c.drain.ensures.faults c.drain.ensures.stops c.drain.ensures.never
+    (record { localities = c.drain.ensures.count; profile = c.drain.ensures.profile; unfed = c.drain.ensures.unfed; carrying = c.drain.ensures.carrying; hears = c.drain.ensures.hears })
+    c.drain.result c.drain.ensures.faults c.drain.ensures.stops c.drain.ensures.finds c.drain.ensures.never

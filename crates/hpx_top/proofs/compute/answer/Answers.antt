@@ -39,7 +39,7 @@ returns-in_err-feed-clause-told g c = λ carries.
     if_err_from c.from_residual.result c.in_err-feed.field-0.0 _ c.from_residual.ensures.1 (c.in_err-feed.ensures.told carries)
 
 pub returns-clause-shown : goal.returns-clause-shown
-returns-clause-shown g c = written_shown c.show.result c.feed.new.world _ c.show.ensures.cause
+returns-clause-shown g c = written_shown c.show.result c.feed.new.world _ _ c.show.ensures.cause
 
 pub returns-clause-told : goal.returns-clause-told
 returns-clause-told g c = λ carries. written_calm c.show.result _ c.show.ensures.cause

@@ -7,6 +7,7 @@ use Rattle.hpx_top.specs.declared.session.SessionFault.TheVariants.{Read, InputF
 use Rattle.hpx_top.specs.Computed.{IsAnswered, IsUnanswered}
 use Rattle.hpx_top.proofs.FeedLemmas.{same_rules}
 use Rattle.hpx_top.proofs.RunLemmas.{cause_none, cause_of, ended_of, lawful_of, shown_in, status_is}
+use Rattle.hpx_world.proofs.Heard.{latest_none}
 use Rattle.hpx_top.proofs.Carried.{carrying_start}
 use Rattle.hpx_top.proofs.compute.compute_all.Goals as goal
 
@@ -29,7 +30,10 @@ returns-clause-status g c = λ flight trace.
     status_is c.answer-answered.result (c.answer-answered.ensures.told (carrying_start _ _ _ _ _ c.in-Ok.ensures.hand flight trace c.in-Ok.ensures.empty))
 
 pub returns-clause-shown : goal.returns-clause-shown
-returns-clause-shown g c = shown_in c.answer-answered.result c.answer-answered.new.world c.answer-answered.ensures.shown
+returns-clause-shown g c = shown_in c.answer-answered.result c.answer-answered.new.world _ c.answer-answered.ensures.shown
+
+pub returns-clause-hears : goal.returns-clause-hears
+returns-clause-hears g c = c.answer-answered.ensures.hears (latest_none _ _ c.in-Ok.ensures.hand)
 
 pub returns-clause-carrying : goal.returns-clause-carrying
 returns-clause-carrying g c = λ flight trace.

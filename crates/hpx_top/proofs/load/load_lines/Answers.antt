@@ -14,6 +14,7 @@ lines-init g c = record {
       (c.new-session.ensures ∙ ap (λ n. session_lines c.args.load.start c.args.load.lines n) (sym c.requires.places)) refl refl refl;
   rest = record { quiet = c.requires.quiet; rest = record { rest = λ carried. c.law.ensures.rest carried c.requires.quiet } };
   carrying = λ carries. carries;
+  hears = λ h. h;
   count = refl;
   profile = refl;
   room = subst HasRoom (sym c.requires.empty) room_none;
@@ -66,6 +67,7 @@ lines-preserved g c =
           done.counted done.bounded;
       rest = done.rest;
       carrying = λ carries. done.carrying (inv.carrying carries);
+      hears = λ h. done.hears (inv.hears h);
       count = done.count ∙ inv.count;
       profile = done.profile ∙ inv.profile;
       room = done.room (no_err _ _);
@@ -77,7 +79,7 @@ returns-clause-fed g c = first_fed (rules c.args.world.now) c.args.load c.lines.
 
 pub returns-in_err-line-clause-shown : goal.returns-in_err-line-clause-shown
 returns-in_err-line-clause-shown g c =
-    if_err_from c.from_residual.result c.in_err-line.field-0.0 _ c.from_residual.ensures.1 (memory_shown c.in_err-line.field-0.0 c.lines.world c.in_err-line.ensures.cause)
+    if_err_from c.from_residual.result c.in_err-line.field-0.0 _ c.from_residual.ensures.1 (memory_shown c.in_err-line.field-0.0 c.lines.world _ c.in_err-line.ensures.cause)
 
 pub returns-in_err-line-clause-told : goal.returns-in_err-line-clause-told
 returns-in_err-line-clause-told g c = λ carries.

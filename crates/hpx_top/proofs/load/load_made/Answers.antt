@@ -31,7 +31,7 @@ returns-in_err-tally-clause-told g c = λ carries.
     if_err_from c.from_residual.result c.in_err-tally.field-0.0 _ c.from_residual.ensures.1 (c.in_err-tally.ensures.told carries)
 
 pub returns-clause-shown : goal.returns-clause-shown
-returns-clause-shown g c = answer_either c.write_sum.result c.load_lines.new.world _ _ c.write_sum.ensures.cause
+returns-clause-shown g c = answer_either c.write_sum.result c.load_lines.new.world _ _ _ c.write_sum.ensures.cause
 
 pub returns-clause-told : goal.returns-clause-told
 returns-clause-told g c = λ carries. answer_calm c.write_sum.result _ _ c.write_sum.ensures.cause

@@ -113,7 +113,7 @@ returns-clause-ended g c =
     λ s. ended_well c.fulfil-world.result.1 _ (is ∙ s) c.fulfil-world.ensures.ended
 
 pub returns-in-Err-clause-fault : goal.returns-in-Err-clause-fault
-returns-in-Err-clause-fault g c = no_breach_told 1 None (omega arith) (omega arith)
+returns-in-Err-clause-fault g c = no_breach_told 1 None _ (omega arith) (omega arith)
 
 pub returns-clause-fault : goal.returns-clause-fault
 returns-clause-fault g c =
@@ -121,6 +121,6 @@ returns-clause-fault g c =
       | in-Ok-ended w ↦ ap status_after w.in-Ok-ended.is ∙ sym w.status-is
       | in-Err-ended w ↦ ap status_after w.in-Err-ended.is ∙ (sym w.line_of-status.ensures.status ∙ sym w.status-is)
     ] in
-    subst (λ s. TellsBreach s c.breach_after-fault.result c.fulfil-world.result.0) is
-    (subst (λ b. TellsBreach (status_after c.fulfil-world.result.1) b c.fulfil-world.result.0) (sym c.breach_after-fault.ensures)
-    (breach_by c.fulfil-world.result.1 c.fulfil-world.result.0 c.fulfil-world.ensures.shown))
+    subst (λ s. TellsBreach s c.breach_after-fault.result c.fulfil-world.result.0 _) is
+    (subst (λ b. TellsBreach (status_after c.fulfil-world.result.1) b c.fulfil-world.result.0 _) (sym c.breach_after-fault.ensures)
+    (breach_by c.fulfil-world.result.1 c.fulfil-world.result.0 _ c.fulfil-world.ensures.shown))

@@ -158,7 +158,7 @@ returns-in_err-serve_text-in-Ok-Line-clause-fabric_only g c = λ other.
 pub returns-in_err-write-clause-shown : goal.returns-in_err-write-clause-shown
 returns-in_err-write-clause-shown g c =
     if_err_from c.from_residual.result c.in_err-write.field-0.0 _ c.from_residual.ensures.1
-    (write_shown c.in_err-write.field-0.0 c.args.world.now c.in_err-write.ensures.cause.0)
+    (write_shown c.in_err-write.field-0.0 c.args.world.now _ c.in_err-write.ensures.cause.0)
 
 pub returns-in_err-write-clause-told : goal.returns-in_err-write-clause-told
 returns-in_err-write-clause-told g c = λ carries.
@@ -175,9 +175,9 @@ returns-in_err-serve_text-in-Ok-Line-clause-told g c = λ carries.
 pub returns-in_err-serve_long-in-Ok-Long-clause-shown : goal.returns-in_err-serve_long-in-Ok-Long-clause-shown
 returns-in_err-serve_long-in-Ok-Long-clause-shown g c =
     if_err_from c.from_residual-in_err-serve_long-in-Ok-Long.result c.in_err-serve_long-in-Ok-Long.field-0.0 _ c.from_residual-in_err-serve_long-in-Ok-Long.ensures.1
-    (elim c.in_err-serve_long-in-Ok-Long.ensures.cause as (λ _. IsShown c.in_err-serve_long-in-Ok-Long.field-0.0 c.args.world.now) [
-      | inl h ↦ memory_shown c.in_err-serve_long-in-Ok-Long.field-0.0 c.args.world.now h
-      | inr h ↦ write_shown c.in_err-serve_long-in-Ok-Long.field-0.0 c.args.world.now h.0
+    (elim c.in_err-serve_long-in-Ok-Long.ensures.cause as (λ _. IsShown c.in_err-serve_long-in-Ok-Long.field-0.0 c.args.world.now (g.F.Fabric.latest c.args.fabric.now)) [
+      | inl h ↦ memory_shown c.in_err-serve_long-in-Ok-Long.field-0.0 c.args.world.now _ h
+      | inr h ↦ write_shown c.in_err-serve_long-in-Ok-Long.field-0.0 c.args.world.now _ h.0
     ])
 
 pub returns-in_err-serve_long-in-Ok-Long-clause-told : goal.returns-in_err-serve_long-in-Ok-Long-clause-told

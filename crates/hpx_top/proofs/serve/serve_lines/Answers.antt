@@ -87,6 +87,7 @@ loop-reader-init g c = record {
   jobs = passive_runs _ c.in_ok-open.ensures.rest.quiet.passive;
   profile = c.open.ensures.profile;
   carrying = c.open.ensures.carrying;
+  hears = c.open.ensures.hears;
   count = c.open.ensures.count;
   source_stands = refl;
   sink_stands = c.in_ok-write.ensures.stands;
@@ -113,6 +114,7 @@ loop-reader-preserved g c =
       jobs = c.in_ok-serve_line.ensures.jobs;
       profile = c.serve_line.ensures.profile ∙ c.loop-reader.invariant.profile;
       carrying = λ carries. c.serve_line.ensures.carrying (c.loop-reader.invariant.carrying carries);
+      hears = λ h. c.serve_line.ensures.hears (c.loop-reader.invariant.hears h);
       count = c.serve_line.ensures.count ∙ c.loop-reader.invariant.count;
       source_stands = c.in_ok-serve_line.ensures.read_only (no_err _ _) ∙ c.loop-reader.invariant.source_stands;
       sink_stands = c.in_ok-serve_line.ensures.write_only (no_err _ _) ∙ c.loop-reader.invariant.sink_stands;
@@ -231,7 +233,7 @@ returns-clause-short g c =
 pub returns-in_err-write-clause-shown : goal.returns-in_err-write-clause-shown
 returns-in_err-write-clause-shown g c =
     if_err_from c.from_residual.result c.in_err-write.field-0.0 _ c.from_residual.ensures.1
-    (write_shown c.in_err-write.field-0.0 c.args.world.now c.in_err-write.ensures.cause.0)
+    (write_shown c.in_err-write.field-0.0 c.args.world.now _ c.in_err-write.ensures.cause.0)
 
 pub returns-in_err-write-clause-told : goal.returns-in_err-write-clause-told
 returns-in_err-write-clause-told g c = λ carries.

@@ -1,5 +1,6 @@
 use Rattle.std.proofs.Common.{◌≡◌, ◌+◌, ◌≤◌, [], false, length}
 use Rattle.hpx_journal.specs.Weights.{HasRoom}
+use Rattle.hpx_world.specs.Heard.{KeepsLatest}
 use Rattle.hpx_world.specs.Quiet.{NoneRuns}
 use Rattle.hpx_top.specs.Reader.{HasRead, bytes_left, lines_left}
 use Rattle.hpx_top.specs.Session.{rules, Carries, IsRested, IsHandling}
@@ -18,6 +19,7 @@ invariant-loop-reader g l =
       jobs : NoneRuns l.world.nodes;
       profile : l.world.profile ≡ l.fn.world.profile;
       carrying : Carries l.fn.world (g.F.Fabric.flight l.fn.fabric) (g.F.Fabric.trace l.fn.fabric) → Carries l.world (g.F.Fabric.flight l.fabric) (g.F.Fabric.trace l.fabric);
+      hears : KeepsLatest l.fn.world.hand (g.F.Fabric.latest l.fn.fabric) l.world.hand (g.F.Fabric.latest l.fabric);
       count : length l.world.nodes ≡ length l.fn.world.nodes;
       source_stands : g.S.Source.faults l.source ≡ g.S.Source.faults l.fn.source;
       sink_stands : g.K.Sink.faults l.sink ≡ g.K.Sink.faults l.fn.sink;

@@ -90,20 +90,20 @@ pub returns-in_err-handle-clause-err : goal.returns-in_err-handle-clause-err
 returns-in_err-handle-clause-err g c =
     if_err_from c.from_residual-in_err-handle.result c.in_err-handle.field-0.0 _ c.from_residual-in_err-handle.ensures.1
     (line_left (rules c.args.world.now) c.args.progress.now.held c.reserve.new.self.held c.in_err-handle.field-0.0 c.args.world.now.journal.entries
-    c.handle.new.world.journal.entries (g.K.Sink.held c.args.sink.now) (g.K.Sink.held c.args.sink.now) c.handle.new.world c.in_err-handle.ensures.cause
+    c.handle.new.world.journal.entries (g.K.Sink.held c.args.sink.now) (g.K.Sink.held c.args.sink.now) c.handle.new.world _ c.in_err-handle.ensures.cause
     (record { begun = c.handle.ensures.once; cut = c.reserve.ensures.cuts; written = refl }))
 
 pub returns-in_err-handle-clause-shown : goal.returns-in_err-handle-clause-shown
 returns-in_err-handle-clause-shown g c =
     if_err_from c.from_residual-in_err-handle.result c.in_err-handle.field-0.0 _ c.from_residual-in_err-handle.ensures.1
-    (turn_shown c.in_err-handle.field-0.0 c.handle.new.world c.in_err-handle.ensures.cause)
+    (turn_shown c.in_err-handle.field-0.0 c.handle.new.world _ c.in_err-handle.ensures.cause)
 
 pub returns-in_err-handle-clause-told : goal.returns-in_err-handle-clause-told
 returns-in_err-handle-clause-told g c = λ carries.
     if_err_from c.from_residual-in_err-handle.result c.in_err-handle.field-0.0 _ c.from_residual-in_err-handle.ensures.1 (c.in_err-handle.ensures.told carries)
 
 pub returns-clause-shown : goal.returns-clause-shown
-returns-clause-shown g c = written_shown c.write_own.result c.handle.new.world _ c.write_own.ensures.cause
+returns-clause-shown g c = written_shown c.write_own.result c.handle.new.world _ _ c.write_own.ensures.cause
 
 pub returns-clause-told : goal.returns-clause-told
 returns-clause-told g c = λ carries. written_calm c.write_own.result _ c.write_own.ensures.cause

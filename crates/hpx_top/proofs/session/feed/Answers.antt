@@ -34,17 +34,17 @@ returns-clause-once g c =
 pub returns-in_err-begin-clause-shown : goal.returns-in_err-begin-clause-shown
 returns-in_err-begin-clause-shown g c =
     if_err_from c.from_residual.result c.in_err-begin.field-0.0 _ c.from_residual.ensures.1
-    (turn_shown c.in_err-begin.field-0.0 c.begin.new.world (three_turn c.in_err-begin.field-0.0 c.begin.new.world c.in_err-begin.ensures.cause))
+    (turn_shown c.in_err-begin.field-0.0 c.begin.new.world _ (three_turn c.in_err-begin.field-0.0 c.begin.new.world _ c.in_err-begin.ensures.cause))
 
 pub returns-in_err-begin-clause-told : goal.returns-in_err-begin-clause-told
 returns-in_err-begin-clause-told g c = λ carries.
     if_err_from c.from_residual.result c.in_err-begin.field-0.0 _ c.from_residual.ensures.1 (three_calm c.in_err-begin.field-0.0 c.in_err-begin.ensures.cause)
 
 pub returns-clause-shown : goal.returns-clause-shown
-returns-clause-shown g c = answer_shown c.settle.result c.settle.new.world c.settle.ensures.cause
+returns-clause-shown g c = answer_shown c.settle.result c.settle.new.world _ c.settle.ensures.cause
 
 pub returns-clause-other : goal.returns-clause-other
-returns-clause-other g c = answer_other c.settle.result c.settle.new.world c.settle.ensures.cause
+returns-clause-other g c = answer_other c.settle.result c.settle.new.world _ c.settle.ensures.cause
 
 pub returns-clause-told : goal.returns-clause-told
 returns-clause-told g c = λ carries. c.settle.ensures.told (c.begin.ensures.carrying carries)

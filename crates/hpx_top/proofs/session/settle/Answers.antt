@@ -11,8 +11,11 @@ use Rattle.hpx_top.proofs.session.settle.Goals as goal
 
 pub returns-in-Err-clause-cause : goal.returns-in-Err-clause-cause
 returns-in-Err-clause-cause g c =
-    of_turn c.fault_of.result c.drain_by-drained.new.world c.fault_of.ensures.other
+    of_turn c.fault_of.result c.drain_by-drained.new.world _ c.fault_of.ensures.other
     (λ b e. site_breach act_of _ _ _ c.in-Err.ensures.held b (sym c.fault_of.ensures.broken ∙ e))
+
+pub returns-in-Err-clause-hears : goal.returns-in-Err-clause-hears
+returns-in-Err-clause-hears g c = (c.in-Err.ensures.held).hears
 
 pub returns-in-Err-clause-told : goal.returns-in-Err-clause-told
 returns-in-Err-clause-told g c = λ carries.
@@ -53,3 +56,9 @@ returns-then-quiet-clause-rest g c = λ none. record {
   quiet = c.quiet.ensures.is.0 c.if-quiet.true;
   rest = record { rest = λ carried. c.quiet.ensures.rest carried c.if-quiet.true };
 }
+
+pub returns-then-quiet-clause-hears : goal.returns-then-quiet-clause-hears
+returns-then-quiet-clause-hears g c = (c.drain_by-drained.ensures.held).hears
+
+pub returns-else-quiet-clause-hears : goal.returns-else-quiet-clause-hears
+returns-else-quiet-clause-hears g c = (c.drain_by-drained.ensures.held).hears

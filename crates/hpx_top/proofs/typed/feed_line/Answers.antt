@@ -53,14 +53,14 @@ returns-else-held-clause-once g c =
 pub returns-in_err-begin-clause-cause : goal.returns-in_err-begin-clause-cause
 returns-in_err-begin-clause-cause g c =
     if_err_from c.from_residual.result c.in_err-begin.field-0.0 _ c.from_residual.ensures.1
-    (three_turn c.in_err-begin.field-0.0 c.begin.new.world c.in_err-begin.ensures.cause)
+    (three_turn c.in_err-begin.field-0.0 c.begin.new.world _ c.in_err-begin.ensures.cause)
 
 pub returns-in_err-begin-clause-told : goal.returns-in_err-begin-clause-told
 returns-in_err-begin-clause-told g c = λ carries.
     if_err_from c.from_residual.result c.in_err-begin.field-0.0 _ c.from_residual.ensures.1 (three_calm c.in_err-begin.field-0.0 c.in_err-begin.ensures.cause)
 
 pub returns-then-held-clause-cause : goal.returns-then-held-clause-cause
-returns-then-held-clause-cause g c = answer_turn c.stay.result c.stay.new.world c.stay.ensures.cause
+returns-then-held-clause-cause g c = answer_turn c.stay.result c.stay.new.world _ c.stay.ensures.cause
 
 pub returns-then-held-clause-told : goal.returns-then-held-clause-told
 returns-then-held-clause-told g c = λ carries. c.stay.ensures.told (c.begin.ensures.carrying carries)
@@ -69,7 +69,7 @@ pub returns-then-held-clause-carrying : goal.returns-then-held-clause-carrying
 returns-then-held-clause-carrying g c = λ carries. c.stay.ensures.carrying (c.begin.ensures.carrying carries)
 
 pub returns-then-held-clause-fabric : goal.returns-then-held-clause-fabric
-returns-then-held-clause-fabric g c = λ e. absurd (apart_never c.stay.result c.stay.new.world c.stay.ensures.cause e)
+returns-then-held-clause-fabric g c = λ e. absurd (apart_never c.stay.result c.stay.new.world _ c.stay.ensures.cause e)
 
 pub returns-else-held-clause-told : goal.returns-else-held-clause-told
 returns-else-held-clause-told g c = λ carries. c.settle.ensures.told (c.begin.ensures.carrying carries)

@@ -17,8 +17,8 @@ returns-in-Err-clause-carrying g c = carries_then c.args.world.now c.turns.new.w
 
 pub returns-in-Err-clause-cause : goal.returns-in-Err-clause-cause
 returns-in-Err-clause-cause g c =
-    of_turn c.fault_of.result c.turns.new.world c.fault_of.ensures.other
-    (λ b e. turns_shows act_of c.args.most _ _ c.turns.new.world _ _ c.in-Err.ensures.stops b (sym c.fault_of.ensures.broken ∙ e))
+    of_turn c.fault_of.result c.turns.new.world _ c.fault_of.ensures.other
+    (λ b e. turns_shows act_of c.args.most _ _ c.turns.new.world _ _ _ c.in-Err.ensures.stops c.in-Err.ensures.finds b (sym c.fault_of.ensures.broken ∙ e))
 
 pub returns-in-Err-clause-told : goal.returns-in-Err-clause-told
 returns-in-Err-clause-told g c = λ carries.

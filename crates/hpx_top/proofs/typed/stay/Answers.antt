@@ -21,8 +21,8 @@ returns-in-Ok-clause-waits g c = c.in-Ok.ensures.waits
 pub returns-in-Err-clause-cause : goal.returns-in-Err-clause-cause
 returns-in-Err-clause-cause g c = (
   λ e. stay_apart act_of _ _ _ c.in-Err.ensures.stops (c.fault_of.ensures.fabric e),
-  of_turn c.fault_of.result c.stay_home.new.world c.fault_of.ensures.other
-      (λ b e. stay_shows act_of _ _ c.stay_home.new.world _ _ c.in-Err.ensures.stops b (sym c.fault_of.ensures.broken ∙ e)),
+  of_turn c.fault_of.result c.stay_home.new.world _ c.fault_of.ensures.other
+      (λ b e. stay_shows act_of _ _ c.stay_home.new.world _ _ _ c.in-Err.ensures.stops b (sym c.fault_of.ensures.broken ∙ e)),
 )
 
 pub returns-in-Err-clause-told : goal.returns-in-Err-clause-told

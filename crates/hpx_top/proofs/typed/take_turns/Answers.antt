@@ -21,7 +21,7 @@ pub returns-in_err-go_on-clause-told : goal.returns-in_err-go_on-clause-told
 returns-in_err-go_on-clause-told g c = λ carries. if_err_from c.from_residual.result c.in_err-go_on.field-0.0 _ c.from_residual.ensures.1 (c.in_err-go_on.ensures.told carries)
 
 pub returns-clause-cause : goal.returns-clause-cause
-returns-clause-cause g c = answer_turn c.stay.result c.stay.new.world c.stay.ensures.cause
+returns-clause-cause g c = answer_turn c.stay.result c.stay.new.world _ c.stay.ensures.cause
 
 pub returns-clause-told : goal.returns-clause-told
 returns-clause-told g c = λ carries. c.stay.ensures.told (c.go_on.ensures.carrying carries)
@@ -30,4 +30,4 @@ pub returns-clause-carrying : goal.returns-clause-carrying
 returns-clause-carrying g c = λ carries. c.stay.ensures.carrying (c.go_on.ensures.carrying carries)
 
 pub returns-clause-fabric : goal.returns-clause-fabric
-returns-clause-fabric g c = λ e. absurd (apart_never c.stay.result c.stay.new.world c.stay.ensures.cause e)
+returns-clause-fabric g c = λ e. absurd (apart_never c.stay.result c.stay.new.world _ c.stay.ensures.cause e)

@@ -8,6 +8,6 @@ invariant_of-self-in-Err g c = (
   c.self.invariant.1,
   c.self.invariant.2,
   turn_stops _ _ _ _ _ (search rules) c.self.invariant.3
-      (record { localities = c.turn.ensures.count; profile = c.turn.ensures.profile; unfed = c.turn.ensures.unfed c.requires; carrying = c.turn.ensures.carrying })
-      c.args.choice c.requires c.in-Err.fault c.in-Err.ensures.stops c.in-Err.ensures.faults c.in-Err.ensures.never,
+      (record { localities = c.turn.ensures.count; profile = c.turn.ensures.profile; unfed = c.turn.ensures.unfed c.requires; carrying = c.turn.ensures.carrying; hears = c.turn.ensures.hears })
+      c.args.choice c.requires c.in-Err.fault c.in-Err.ensures.stops c.in-Err.ensures.faults c.in-Err.ensures.finds c.in-Err.ensures.never,
 )

@@ -17,6 +17,7 @@ loop-k-preserved g c =
       count = c.turn.ensures.count ∙ i.count;
       profile = c.turn.ensures.profile ∙ i.profile;
       same = stage_is _ _ none.0.tables none.0.journal d.1 ∙ i.same;
+      hears = λ h. c.turn.ensures.hears (i.hears h);
       faults = c.in_ok-turn.ensures.faults ∙ i.faults;
       none = passed HasNothingToTend c.loop-k.k _ _ refl (λ t at. none.1 t (ap (λ s. slice_get s.nodes c.loop-k.k) i.same ∙ at)) i.none;
     }

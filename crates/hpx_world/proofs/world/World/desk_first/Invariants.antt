@@ -1,6 +1,7 @@
 use Rattle.std.proofs.Common.{◌≡◌, length, take}
 use Rattle.std.specs.List.{AllByRecursion}
 use Rattle.hpx_node.specs.Handled.{HasNothingToTend}
+use Rattle.hpx_world.specs.Heard.{KeepsLatest}
 use Rattle.hpx_world.specs.Stages.{stage}
 use Rattle.hpx_world.proofs.world.World.desk_first.Given as goal
 
@@ -10,6 +11,7 @@ invariant-loop-k g l = record {
   count : length l.self.nodes ≡ length l.fn.self.nodes;
   profile : l.self.profile ≡ l.fn.self.profile;
   same : stage l.self (g.F.Fabric.flight l.fabric) (g.F.Fabric.trace l.fabric) ≡ stage l.fn.self (g.F.Fabric.flight l.fn.fabric) (g.F.Fabric.trace l.fn.fabric);
+  hears : KeepsLatest l.fn.self.hand (g.F.Fabric.latest l.fn.fabric) l.self.hand (g.F.Fabric.latest l.fabric);
   faults : g.F.Fabric.faults l.fabric ≡ g.F.Fabric.faults l.fn.fabric;
   none : AllByRecursion HasNothingToTend (take l.k l.fn.self.nodes);
 }

@@ -18,6 +18,7 @@ loop-preserved g c =
         between = stage c.loop.self (g.F.Fabric.flight c.loop.fabric) (g.F.Fabric.trace c.loop.fabric) ∷ i.goes.between;
         steps = (i.goes.steps, c.in_ok-step.ensures.did (ap (λ b. Ok b) c.if-branch.true));
       };
+      hears = λ h. c.step.ensures.hears (i.hears h);
       faults = c.in_ok-step.ensures.faults ∙ i.faults;
       unfed = unfed_then _ _ _ i.unfed c.step.ensures.unfed;
       jobs = λ none. c.in_ok-step.ensures.jobs tt (i.jobs none);

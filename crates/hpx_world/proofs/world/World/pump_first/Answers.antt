@@ -18,6 +18,7 @@ loop-k-preserved g c =
       count = c.turn.ensures.count ∙ i.count;
       profile = c.turn.ensures.profile ∙ i.profile;
       same = stage_is _ _ none.1.tables none.1.journal (outside_is _ _ d.1 none.0.0 none.0.1) ∙ i.same;
+      hears = λ h. c.turn.ensures.hears (i.hears h);
       faults = c.in_ok-turn.ensures.faults ∙ i.faults;
       none = passed SendsNothing c.loop-k.k _ _ refl (λ t at. none.2 t (ap (λ s. slice_get s.nodes c.loop-k.k) i.same ∙ at)) i.none;
     }

@@ -18,6 +18,7 @@ loop-k-preserved g c =
       count = c.work.ensures.count ∙ i.count;
       profile = c.work.ensures.profile ∙ i.profile;
       same = none.0 ∙ i.same;
+      hears = λ h. c.work.ensures.hears (i.hears h);
       faults = ap g.F.Fabric.faults c.work.ensures.apart ∙ i.faults;
       none = passed IsStuck c.loop-k.k _ _ refl (λ t at. none.1 t (ap (λ s. slice_get s.nodes c.loop-k.k) i.same ∙ at)) i.none;
     }
