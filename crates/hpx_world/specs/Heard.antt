@@ -1,5 +1,5 @@
 -- What the fabric answered last, beside the frame in hand.
-use Rattle.std.specs.Prelude.{Unit, ⊥, ◌≡◌, Bool, false, Option, Some, Result, Ok, Err}
+use Rattle.std.specs.Prelude.{◌≡◌, Bool, false, Option, Some, Result, Ok, Err}
 use Rattle.hpx_value.specs.declared.acts.Acts.{Ghosts}
 use Rattle.hpx_journal.specs.Entries.{Frame}
 use Rattle.hpx_ports.specs.declared.link.Latest.{Latest}

@@ -94,5 +94,8 @@ returns-in_err-load_line-clause-told g c = λ carries.
     if_err_from c.from_residual-in_err-load_line.result c.in_err-load_line.field-0.0 _ c.from_residual-in_err-load_line.ensures.1
     (c.in_err-load_line.ensures.told (c.lines.invariant.carrying carries))
 
+pub returns-in_err-load_line-clause-hears : goal.returns-in_err-load_line-clause-hears
+returns-in_err-load_line-clause-hears g c = λ heard. c.load_line.ensures.hears (c.lines.invariant.hears heard)
+
 pub returns-in_err-load_line-clause-carrying : goal.returns-in_err-load_line-clause-carrying
 returns-in_err-load_line-clause-carrying g c = λ carries. c.load_line.ensures.carrying (c.lines.invariant.carrying carries)

@@ -256,11 +256,17 @@ returns-in_err-serve_line-clause-told g c = λ carries.
     if_err_from c.from_residual-in_err-serve_line.result c.in_err-serve_line.field-0.0 _ c.from_residual-in_err-serve_line.ensures.1
     (c.in_err-serve_line.ensures.told (c.loop-reader.invariant.carrying carries))
 
+pub returns-in_err-serve_line-clause-hears : goal.returns-in_err-serve_line-clause-hears
+returns-in_err-serve_line-clause-hears g c = λ heard. c.serve_line.ensures.hears (c.loop-reader.invariant.hears heard)
+
 pub returns-in_err-serve_line-clause-carrying : goal.returns-in_err-serve_line-clause-carrying
 returns-in_err-serve_line-clause-carrying g c = λ carries. c.serve_line.ensures.carrying (c.loop-reader.invariant.carrying carries)
 
 pub returns-clause-told : goal.returns-clause-told
 returns-clause-told g c = λ carries. c.let_go.ensures.told (c.serve_line.ensures.carrying (c.loop-reader.invariant.carrying carries))
+
+pub returns-clause-hears : goal.returns-clause-hears
+returns-clause-hears g c = λ heard. c.let_go.ensures.hears (c.serve_line.ensures.hears (c.loop-reader.invariant.hears heard))
 
 pub returns-clause-carrying : goal.returns-clause-carrying
 returns-clause-carrying g c = λ carries. c.let_go.ensures.carrying (c.serve_line.ensures.carrying (c.loop-reader.invariant.carrying carries))

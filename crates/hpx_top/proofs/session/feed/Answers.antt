@@ -49,5 +49,8 @@ returns-clause-other g c = answer_other c.settle.result c.settle.new.world _ c.s
 pub returns-clause-told : goal.returns-clause-told
 returns-clause-told g c = λ carries. c.settle.ensures.told (c.begin.ensures.carrying carries)
 
+pub returns-clause-hears : goal.returns-clause-hears
+returns-clause-hears g c = λ heard. c.settle.ensures.hears (c.begin.ensures.hears heard)
+
 pub returns-clause-carrying : goal.returns-clause-carrying
 returns-clause-carrying g c = λ carries. c.settle.ensures.carrying (c.begin.ensures.carrying carries)

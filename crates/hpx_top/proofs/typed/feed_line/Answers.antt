@@ -65,6 +65,9 @@ returns-then-held-clause-cause g c = answer_turn c.stay.result c.stay.new.world 
 pub returns-then-held-clause-told : goal.returns-then-held-clause-told
 returns-then-held-clause-told g c = λ carries. c.stay.ensures.told (c.begin.ensures.carrying carries)
 
+pub returns-then-held-clause-hears : goal.returns-then-held-clause-hears
+returns-then-held-clause-hears g c = λ heard. c.stay.ensures.hears (c.begin.ensures.hears heard)
+
 pub returns-then-held-clause-carrying : goal.returns-then-held-clause-carrying
 returns-then-held-clause-carrying g c = λ carries. c.stay.ensures.carrying (c.begin.ensures.carrying carries)
 
@@ -73,6 +76,9 @@ returns-then-held-clause-fabric g c = λ e. absurd (apart_never c.stay.result c.
 
 pub returns-else-held-clause-told : goal.returns-else-held-clause-told
 returns-else-held-clause-told g c = λ carries. c.settle.ensures.told (c.begin.ensures.carrying carries)
+
+pub returns-else-held-clause-hears : goal.returns-else-held-clause-hears
+returns-else-held-clause-hears g c = λ heard. c.settle.ensures.hears (c.begin.ensures.hears heard)
 
 pub returns-else-held-clause-carrying : goal.returns-else-held-clause-carrying
 returns-else-held-clause-carrying g c = λ carries. c.settle.ensures.carrying (c.begin.ensures.carrying carries)

@@ -26,6 +26,9 @@ returns-clause-cause g c = answer_turn c.stay.result c.stay.new.world _ c.stay.e
 pub returns-clause-told : goal.returns-clause-told
 returns-clause-told g c = λ carries. c.stay.ensures.told (c.go_on.ensures.carrying carries)
 
+pub returns-clause-hears : goal.returns-clause-hears
+returns-clause-hears g c = λ heard. c.stay.ensures.hears (c.go_on.ensures.hears heard)
+
 pub returns-clause-carrying : goal.returns-clause-carrying
 returns-clause-carrying g c = λ carries. c.stay.ensures.carrying (c.go_on.ensures.carrying carries)
 
