@@ -82,7 +82,7 @@ impl<'b, 'w, 'f, A: Acts + Copy, F: Fabric, E: Past> Kept<'b, 'w, 'f, A, F, E> {
         requires lent { lent.ghost_name ≡ E.lent }
         requires world { lent.old.world.ghost_name ≡ E.world }
         requires fabric { lent.old.fabric.ghost_name ≡ E.fabric }
-        requires was { E.was ≡ seen lent.old.world.now (F.flight lent.old.fabric.now) (F.trace lent.old.fabric.now) (F.faults lent.old.fabric.now) }
+        requires was { E.was ≡ seen lent.old.world.now (F.flight lent.old.fabric.now) (F.trace lent.old.fabric.now) (F.faults lent.old.fabric.now) (F.latest lent.old.fabric.now) }
     {
         Kept {
             lent,

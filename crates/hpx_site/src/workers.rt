@@ -244,7 +244,7 @@ fn work_on<
     requires lent { lent.ghost_name ≡ E.lent }
     requires world { lent.old.world.ghost_name ≡ E.world }
     requires fabric { lent.old.fabric.ghost_name ≡ E.fabric }
-    requires was { E.was ≡ seen lent.old.world.now (F.flight lent.old.fabric.now) (F.trace lent.old.fabric.now) (F.faults lent.old.fabric.now) }
+    requires was { E.was ≡ seen lent.old.world.now (F.flight lent.old.fabric.now) (F.trace lent.old.fabric.now) (F.faults lent.old.fabric.now) (F.latest lent.old.fabric.now) }
     ensures lent { result.ghost_name ≡ E.lent }
     ensures world { result.now.world.ghost_name ≡ E.world }
     ensures fabric { result.now.fabric.ghost_name ≡ E.fabric }
