@@ -1,7 +1,7 @@
-use Rattle.std.proofs.Common.{Err}
+use Rattle.std.proofs.Common.{Err, None, refl}
 use Rattle.hpx_site.specs.Held.{Held}
 use Rattle.hpx_site.specs.Seen.{seen}
-use Rattle.hpx_site.proofs.Helds.{handed_on, stepped}
+use Rattle.hpx_site.proofs.Helds.{goes_on, handed_on, stepped}
 use Rattle.hpx_site.proofs.workers.step_alone.Goals as goal
 
 pub returns-in_err-step : goal.returns-in_err-step
@@ -15,3 +15,9 @@ returns-in_err-step g c =
           (record { localities = c.step.ensures.count; profile = c.step.ensures.profile; unfed = c.step.ensures.unfed; carrying = c.step.ensures.carrying; hears = c.step.ensures.hears })
           (Err c.in_err-step.field-0.0) c.in_err-step.ensures.faults c.in_err-step.ensures.stops c.in_err-step.ensures.finds c.in_err-step.ensures.never);
     }
+
+pub loop-step-preserved : goal.loop-step-preserved
+loop-step-preserved g c =
+    goes_on g.A.Acts.act_of _ _ _ None refl c.loop-step.invariant
+    (record { localities = c.step.ensures.count; profile = c.step.ensures.profile; unfed = c.step.ensures.unfed; carrying = c.step.ensures.carrying; hears = c.step.ensures.hears })
+    c.in_ok-step.ensures.faults
