@@ -305,14 +305,14 @@ pub breach_is : (f : SessionFault) (b : Breach) → f ≡ Broken b → breach_in
 breach_is f b e = ap breach_in e
 
 -- by what can come where the journal is not full
-pub room_by : (f : SessionFault) (w : Places) (R : Type 0) → IsOfTurn f w → (f ≢ JournalFull) → (f ≡ OutOfMemory → R) → (f ≡ Fabric → R) → ((b : Breach) → f ≡ Broken b → R) → R
-room_by Read w R h full memory there broken = absurd h
-room_by Write w R h full memory there broken = absurd h
-room_by InputFull w R h full memory there broken = absurd h
-room_by (Broken breach) w R h full memory there broken = broken breach refl
-room_by Fabric w R h full memory there broken = there refl
-room_by JournalFull w R h full memory there broken = absurd (full refl)
-room_by OutOfMemory w R h full memory there broken = memory refl
+pub room_by : (f : SessionFault) (w : Places) (latest : Latest) (R : Type 0) → IsOfTurn f w latest → (f ≢ JournalFull) → (f ≡ OutOfMemory → R) → (f ≡ Fabric → R) → ((b : Breach) → f ≡ Broken b → R) → R
+room_by Read w latest R h full memory there broken = absurd h
+room_by Write w latest R h full memory there broken = absurd h
+room_by InputFull w latest R h full memory there broken = absurd h
+room_by (Broken breach) w latest R h full memory there broken = broken breach refl
+room_by Fabric w latest R h full memory there broken = there refl
+room_by JournalFull w latest R h full memory there broken = absurd (full refl)
+room_by OutOfMemory w latest R h full memory there broken = memory refl
 
 -- before anything is written there is room
 pub room_none : HasRoom []

@@ -121,6 +121,6 @@ returns-clause-fault g c =
       | in-Ok-ended w ↦ ap status_after w.in-Ok-ended.is ∙ sym w.status-is
       | in-Err-ended w ↦ ap status_after w.in-Err-ended.is ∙ (sym w.line_of-status.ensures.status ∙ sym w.status-is)
     ] in
-    subst (λ s. TellsBreach s c.breach_after-fault.result c.fulfil-world.result.0 _) is
-    (subst (λ b. TellsBreach (status_after c.fulfil-world.result.1) b c.fulfil-world.result.0 _) (sym c.breach_after-fault.ensures)
-    (breach_by c.fulfil-world.result.1 c.fulfil-world.result.0 _ c.fulfil-world.ensures.shown))
+    subst (λ s. TellsBreach s c.breach_after-fault.result c.fulfil-world.result.0 (g.F.Fabric.latest c.fulfil-world.new.fabric)) is
+    (subst (λ b. TellsBreach (status_after c.fulfil-world.result.1) b c.fulfil-world.result.0 (g.F.Fabric.latest c.fulfil-world.new.fabric)) (sym c.breach_after-fault.ensures)
+    (breach_by c.fulfil-world.result.1 c.fulfil-world.result.0 (g.F.Fabric.latest c.fulfil-world.new.fabric) c.fulfil-world.ensures.shown))

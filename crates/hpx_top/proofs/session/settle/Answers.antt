@@ -25,7 +25,7 @@ returns-in-Err-clause-told g c = λ carries.
 pub returns-in-Err-clause-room : goal.returns-in-Err-clause-room
 returns-in-Err-clause-room g c = λ full.
     let es = c.drain_by-drained.new.world.journal.entries in
-    room_by c.fault_of.result c.drain_by-drained.new.world (HasRoom es) (returns-in-Err-clause-cause g c) (λ e. full (ap Err e))
+    room_by c.fault_of.result c.drain_by-drained.new.world _ (HasRoom es) (returns-in-Err-clause-cause g c) (λ e. full (ap Err e))
     (λ e. elim (c.fault_of.ensures.memory e) as (λ _. HasRoom es) [
       | inl h ↦ site_memory_room act_of _ _ _ c.in-Err.ensures.held h.0 h.1
       | inr h ↦ subst (λ b. HasRoom b.entries) c.journal.ensures.journal (c.room.ensures.0 h.2)
