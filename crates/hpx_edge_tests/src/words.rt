@@ -1,14 +1,16 @@
 //! The program on the words of an environment.
 use hpx_ports::gate::OpenGate;
 use hpx_ports::memory_fabric::SureFabric;
+use hpx_ports::memory_opener::MemOpener;
 use hpx_ports::memory_sink::SureSink;
 use hpx_ports::memory_source::SureSource;
 use hpx_ports::order::Order;
 use hpx_ports::words::{EnvWords, MemWords, Words};
 use hpx_program::program::program;
-use hpx_value::items::{Bytes, Items, Text, Texts};
+use hpx_value::items::{Bytes, Items, Lengths, Text, Texts};
 use hpx_value::memory::OutOfMemory;
 use std::alloc::Global;
+use std::collections::VecDeque;
 use std::env::{Env, FillError};
 use std::process::Abort;
 use std::sync::Wait;
@@ -55,6 +57,13 @@ fn two_lines(alloc: Global) -> Result<SureSource, OutOfMemory> {
     Ok(SureSource::new(Bytes::from_vec(bytes)))
 }
 
+/// An opener over whose link nothing comes.
+fn quiet_opener(alloc: Global) -> MemOpener {
+    let coming = VecDeque::new(alloc);
+    let (sends, receives) = (Lengths::new(alloc), Lengths::new(alloc));
+    MemOpener::new(alloc, coming, sends, receives, Lengths::new(alloc))
+}
+
 /// The status of the program on these words. What `program` says of it is not needed behind it.
 fn status_of<W: Words, R: Threads + Wait + Sync>(
     rt: &R,
@@ -65,7 +74,19 @@ fn status_of<W: Words, R: Threads + Wait + Sync>(
     line: &mut SureSink,
 ) -> u8 {
     let fabric = SureFabric::new(alloc, Order::FirstIn);
-    program(rt, alloc, given, source, text, line, fabric, &OpenGate).status
+    let mut opener = quiet_opener(alloc);
+    program(
+        rt,
+        alloc,
+        given,
+        source,
+        text,
+        line,
+        fabric,
+        &mut opener,
+        &OpenGate,
+    )
+    .status
 }
 
 /// The program on these words, and on an input of two lines.
@@ -115,7 +136,7 @@ const TEXT: &[u8] = b"commands: reset, add [amount], query, help, quit\n> > 5\n>
 type Row<'a> = (&'a [&'a [u8]], &'a [u8]);
 
 // The limit of a count that stands for nothing is given in 64 bytes, in 65, and in 65 of which the last spoils it.
-const ROWS: [Row; 12] = [
+const ROWS: [Row; 14] = [
     (&[b"accumulator", b"--hpx:localities=2"], b""),
     (
         &[
@@ -168,6 +189,19 @@ const ROWS: [Row; 12] = [
     (
         &[b"accumulator", b"--hpx:localities=2", b"quit"],
         b"hpx: bad word 3\n",
+    ),
+    // the one locality of one process, as a member; and what is no member
+    (
+        &[
+            b"accumulator",
+            b"--hpx:agas=127.0.0.1:7910",
+            b"--hpx:console",
+        ],
+        b"",
+    ),
+    (
+        &[b"space", b"--hpx:agas=127.0.0.1:7910", b"--hpx:console"],
+        b"hpx: bad word 0\n",
     ),
 ];
 

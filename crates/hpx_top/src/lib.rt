@@ -8,7 +8,7 @@ pub mod consoles;
 pub mod crew;
 mod load;
 mod own;
-mod printed;
+pub mod printed;
 mod progress;
 pub mod reader;
 pub mod run;

@@ -59,7 +59,7 @@ fn write_value<K: Sink>(
 }
 
 /// Writes the values of counters, which takes no memory.
-pub(crate) fn write_values<K: Sink>(
+pub fn write_values<K: Sink>(
     counters: &[Counter],
     journal: &Journal,
     sink: &mut K,

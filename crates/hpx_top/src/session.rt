@@ -110,7 +110,7 @@ fn show_entry<K: Sink>(journal: &Journal, i: u64, sink: &mut K) -> Result<(), Se
 }
 
 /// Writes what was printed since a cut of the journal.
-pub(crate) fn show<K: Sink>(journal: &Journal, cut: u64, sink: &mut K) -> Result<(), SessionFault>
+pub fn show<K: Sink>(journal: &Journal, cut: u64, sink: &mut K) -> Result<(), SessionFault>
     requires within { cut ≤ length journal.now.entries }
     ensures held { OnOk result (K.held sink.new ≡ followed (K.held sink.old) (concat (prints_of (drop cut journal.now.entries)))) }
     ensures front { OnErr result (WritesFront (concat (prints_of (drop cut journal.now.entries))) (K.held sink.old) (K.held sink.new)) }

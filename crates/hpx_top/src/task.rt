@@ -106,7 +106,7 @@ fn is_load(start: u32, lines: u32) -> bool
 }
 
 /// From 1 to 64 localities.
-fn are_places(localities: u32) -> bool
+pub fn are_places(localities: u32) -> bool
     ensures { result ≡ are_places localities }
 {
     1 <= localities && localities <= MOST_LOCALITIES
@@ -120,7 +120,7 @@ fn are_threads(threads: u32) -> bool
 }
 
 /// The settings of credit and cache in their ranges.
-fn is_tuned(profile: Profile) -> bool
+pub fn is_tuned(profile: Profile) -> bool
     ensures { result ≡ is_tuned profile }
 {
     8 <= profile.credit_log
@@ -132,7 +132,7 @@ fn is_tuned(profile: Profile) -> bool
 }
 
 /// An application, where it is built.
-fn task_of(app: App) -> Option<Task>
+pub fn task_of(app: App) -> Option<Task>
     ensures { result ≡ task_of app }
 {
     match app {

@@ -1,0 +1,6 @@
+pub mod Talking
+pub mod Prompts
+pub mod Passing
+pub mod Texts
+pub mod Served
+pub mod Words

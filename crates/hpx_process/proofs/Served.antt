@@ -1,0 +1,222 @@
+-- What a console left at its desk, and by its slip.
+use Rattle.std.specs.Prelude.{◌≢◌, ◌+◌, ◌⊎◌, ◌==◌, IfSome}
+use Rattle.std.specs.List.{concat, flat_map, AllByRecursion}
+use Rattle.std.proofs.Common.{ℕ, Bool, true, false, List, [], ◌∷◌, ◌++◌, ◌≡◌, Option, Some, None, map, refl, sym, ap, ◌∙◌, subst, arith, append-nil, append_assoc, inl, inr}
+use Rattle.std.proofs.lemmas.Bool.{eqb-true}
+use Rattle.std.proofs.lemmas.List.Concat.{flat_map-append}
+use Rattle.hpx_journal.specs.Entries.{Rules}
+use Rattle.hpx_journal.specs.Pool.{prints_of}
+use Rattle.hpx_journal.specs.Sessions.{BeginsWith, FeedsNothing}
+use Rattle.hpx_part.specs.Data.{Entry}
+use Rattle.hpx_ports.specs.Told.{followed}
+use Rattle.hpx_member.specs.Leads.{HasServed, status_of_lines}
+use Rattle.hpx_member.specs.Serves.{Asking, Block, Closing, Done, Feeding, Given, IsAt, IsBlock, Serves, Stage, entries_in, talk_at, talk_in, tried_at}
+use Rattle.hpx_member.specs.Talks.{Only, Talk, Handed, Over, Shown}
+use Rattle.hpx_member.specs.declared.lines.LineFault.{LineFault}
+use Rattle.hpx_member.specs.declared.lines.LineFault.TheVariants.{Read, Write, OutOfMemory, InputFull}
+use Rattle.hpx_top.specs.Ends.{IsReadFrom}
+use Rattle.hpx_top.specs.Reader.{Reading}
+use Rattle.hpx_top.specs.Session.{WritesFront, lines_fed}
+use Rattle.hpx_top.proofs.EndLemmas.{read_from, read_none}
+use Rattle.hpx_top.proofs.LineLemmas.{block_line, followed_nothing, followed_twice, lines_fed_append, none_fed}
+use Rattle.hpx_process.specs.declared.sheet.Sheet.TheVariants.{Blank}
+use Rattle.hpx_process.specs.Deeds.{HasBroken, HasTalked, Reads, Sitting, Wrote}
+use Rattle.hpx_process.specs.Parts.{IsWhole}
+use Rattle.hpx_process.specs.Slips.{HasPassed, HasStuck, IfOver, Note, handed_by, handed_in, shown_by, shown_in, unasked}
+use Rattle.hpx_process.proofs.Passing.{prints_append}
+use Rattle.hpx_process.proofs.Texts.{whole}
+
+-- ---- what holds of all that is said
+
+abbrev serves_as : {r : Rules} {es : List Entry} {stage : Stage} (Said Said' : List Talk → List Talk → Type 0) → ((a b : List Talk) → Said a b → Said' a b)
+    → Serves r es Said stage → Serves r es Said' stage
+serves_as Said Said' f s =
+    record { blocks = s.blocks; rest = s.rest; begin = s.begin; is = s.is; at = s.at; feeds = s.feeds; idle = s.idle; talk = f _ _ s.talk }
+
+pub served_as : (r : Rules) (status : ℕ) (es : List Entry) (W W' : List Talk → Type 0) (B B' : LineFault → List Talk → List Talk → Type 0)
+    → ((talk : List Talk) → W talk → W' talk) → ((fault : LineFault) (talk tried : List Talk) → B fault talk tried → B' fault talk tried)
+    → HasServed r status es W B → HasServed r status es W' B'
+served_as r status es W W' B B' f g s = record { stage = s.stage; serves = by s.serves; done = s.done }
+  where
+    by : Serves r es (Only W) s.stage ⊎ ((fault : LineFault) × (status ≡ status_of_lines fault) × Serves r es (B fault) s.stage)
+        → Serves r es (Only W') s.stage ⊎ ((fault : LineFault) × (status ≡ status_of_lines fault) × Serves r es (B' fault) s.stage)
+    by (inl h) = inl (serves_as (Only W) (Only W') (λ a b. f a) h)
+    by (inr h) = inr (h.0, h.1, serves_as (B h.0) (B' h.0) (g h.0) h.2)
+
+pub served_fact : (r : Rules) (status : ℕ) (es : List Entry) (W : List Talk → Type 0) (B : LineFault → List Talk → List Talk → Type 0) (P : Type 0)
+    → ((talk : List Talk) → W talk → P) → ((fault : LineFault) (talk tried : List Talk) → B fault talk tried → P) → HasServed r status es W B → P
+served_fact r status es W B P f g s = by s.serves
+  where
+    by : Serves r es (Only W) s.stage ⊎ ((fault : LineFault) × (status ≡ status_of_lines fault) × Serves r es (B fault) s.stage) → P
+    by (inl h) = f _ h.talk
+    by (inr h) = g h.0 _ _ h.2.talk
+
+no_fault : (fault : LineFault) → 0 ≡ status_of_lines fault → ⊥
+no_fault Read h = cc
+no_fault Write h = cc
+no_fault OutOfMemory h = cc
+no_fault InputFull h = cc
+
+-- where it ended well, all was said
+pub served_done : (r : Rules) (es : List Entry) (W : List Talk → Type 0) (B : LineFault → List Talk → List Talk → Type 0) → HasServed r 0 es W B → Serves r es (Only W) Done
+served_done r es W B s = by s.serves
+  where
+    by : Serves r es (Only W) s.stage ⊎ ((fault : LineFault) × (0 ≡ status_of_lines fault) × Serves r es (B fault) s.stage) → Serves r es (Only W) Done
+    by (inl h) = subst (Serves r es (Only W)) (s.done refl) h
+    by (inr h) = absurd (no_fault h.0 h.1)
+
+-- ---- at a desk
+
+pub sat_whole : (r : Rules) (status : ℕ) (es : List Entry) (input : List ℕ) (x z : Sitting) → x.sheet ≡ Blank → x.reading ≡ record { pending = []; read = 0; ended = false } → x.left ≡ Some input
+    → status ≡ 0 → HasServed r status es (HasTalked x z) (HasBroken x z) → IsWhole input es x.text z.text
+sat_whole r status es input x z blank fresh left well served =
+    let s = served_done r es (HasTalked x z) (HasBroken x z) (subst (λ n. HasServed r n es (HasTalked x z) (HasBroken x z)) well served) in
+    whole input s.blocks s.rest es x z blank fresh left s.is s.begin s.at s.talk
+
+pub sat_reads : (r : Rules) (status : ℕ) (es : List Entry) (x z : Sitting) → HasServed r status es (HasTalked x z) (HasBroken x z) → Reads x z
+sat_reads r status es x z served = served_fact r status es (HasTalked x z) (HasBroken x z) (Reads x z) (λ talk h. h.reads) (λ fault talk tried h. h.reads) served
+
+pub sat_read_from : (input : List ℕ) (x z : Sitting) → x.reading ≡ record { pending = []; read = 0; ended = false } → x.left ≡ Some input → Reads x z → IsReadFrom input z.left x.taken z.taken
+sat_read_from input x z fresh left reads =
+    let none : x.reading.read ≡ 0 = ap (λ r. r.read) fresh in
+    read_from input x.left z.left z.reading x.taken z.taken left (reads.next x.left (read_none x.left x.reading fresh)) (omega (arith, reads.counted, none))
+
+pub sat_full : (x z : Sitting) → x.reading ≡ record { pending = []; read = 0; ended = false } → (z.reading.read == 67108864) ≡ true → Reads x z → z.taken ≡ x.taken + 67108864
+sat_full x z fresh full reads =
+    let none : x.reading.read ≡ 0 = ap (λ r. r.read) fresh in
+    let all : z.reading.read ≡ 67108864 = eqb-true z.reading.read 67108864 full in
+    omega (arith, reads.counted, none, all)
+
+-- ---- by a slip
+
+block_lines : List Block → List (List ℕ)
+block_lines blocks = map (λ b. b.line) blocks
+
+handed_blocks : (blocks : List Block) → handed_in (talk_in blocks) ≡ block_lines blocks
+handed_blocks [] = refl
+handed_blocks (b ∷ bs) = ap (λ l. b.line ∷ l) (handed_blocks bs)
+
+shown_blocks : (blocks : List Block) → shown_in (talk_in blocks) ≡ entries_in blocks
+shown_blocks [] = refl
+shown_blocks (b ∷ bs) = ap (λ l. b.entries ++ l) (shown_blocks bs)
+
+fed_blocks : (blocks : List Block) → AllByRecursion IsBlock blocks → lines_fed (entries_in blocks) ≡ block_lines blocks
+fed_blocks [] h = refl
+fed_blocks (b ∷ bs) h = lines_fed_append b.entries (entries_in bs) ∙ (ap (λ l. l ++ lines_fed (entries_in bs)) (block_line b.line b.entries h.0) ∙ ap (λ l. b.line ∷ l) (fed_blocks bs h.1))
+
+-- the front of one line is that line, or none
+one_or_none : (line : List ℕ) (a b : List (List ℕ)) → line ∷ [] ≡ a ++ b → (a ≡ []) ⊎ (a ≡ line ∷ [])
+one_or_none line [] b h = inl refl
+one_or_none line (x ∷ []) b h = inr (let same : line ≡ x = cc in ap (λ l. l ∷ []) (sym same))
+one_or_none line (x ∷ y ∷ a) b h = absurd (let no : [] ≡ y ∷ (a ++ b) = cc in cc)
+
+-- what was fed is the front of what was handed out
+fed_front : (stage : Stage) (blocks : List Block) (rest : List Entry) → AllByRecursion IsBlock blocks → IsAt stage rest
+    → (more : List (List ℕ)) × (lines_fed (entries_in blocks ++ rest) ++ more ≡ handed_in (talk_in blocks ++ talk_at stage rest))
+fed_front stage blocks rest begin at = by stage at
+  where
+    fed_all : (lines : List (List ℕ)) → lines_fed rest ≡ lines → lines_fed (entries_in blocks ++ rest) ≡ block_lines blocks ++ lines
+    fed_all lines h = lines_fed_append (entries_in blocks) rest ∙ (ap (λ l. l ++ lines_fed rest) (fed_blocks blocks begin) ∙ ap (λ l. block_lines blocks ++ l) h)
+
+    handed_all : (talk : List Talk) → handed_in (talk_in blocks ++ talk) ≡ block_lines blocks ++ handed_in talk
+    handed_all talk = flat_map-append handed_by (talk_in blocks) talk ∙ ap (λ l. l ++ handed_in talk) (handed_blocks blocks)
+
+    by : (stage : Stage) → IsAt stage rest → (more : List (List ℕ)) × (lines_fed (entries_in blocks ++ rest) ++ more ≡ handed_in (talk_in blocks ++ talk_at stage rest))
+    by Asking at = ([], append-nil _ ∙ (fed_all [] (ap lines_fed at) ∙ sym (handed_all [])))
+    by (Given line) at = (line ∷ [], ap (λ l. l ++ line ∷ []) (fed_all [] (ap lines_fed at) ∙ append-nil (block_lines blocks)) ∙ sym (handed_all (Handed line ∷ [])))
+    by (Feeding line) at = ([], append-nil _ ∙ (fed_all (line ∷ []) (block_line line rest at) ∙ sym (handed_all (Handed line ∷ []))))
+    by Closing at = ([], append-nil _ ∙ (fed_all [] (none_fed rest at) ∙ sym (handed_all (Over ∷ []))))
+    by Done at = ([], append-nil _ ∙ (fed_all [] (none_fed rest at) ∙ sym (handed_all (Over ∷ (Shown rest ∷ [])))))
+
+fed_is : (line : List ℕ) (es : List Entry) (asked : Bool) (stage : Stage) (blocks : List Block) (rest : List Entry) → AllByRecursion IsBlock blocks → IsAt stage rest → es ≡ entries_in blocks ++ rest
+    → line ∷ [] ≡ handed_in (talk_in blocks ++ talk_at stage rest) ++ unasked asked line → (lines_fed es ≡ []) ⊎ (lines_fed es ≡ line ∷ [])
+fed_is line es asked stage blocks rest begin at is h =
+    let front = fed_front stage blocks rest begin at in
+    one_or_none line (lines_fed es) (front.0 ++ unasked asked line)
+    (h ∙ (ap (λ l. l ++ unasked asked line) (sym front.1) ∙ (append_assoc (lines_fed (entries_in blocks ++ rest)) front.0 (unasked asked line) ∙ ap (λ e. lines_fed e ++ (front.0 ++ unasked asked line)) (sym is))))
+
+-- what was shown and what was to be shown are the front of all entries
+shown_front : (stage : Stage) (blocks : List Block) (rest : List Entry) → IsAt stage rest
+    → (more : List Entry) × (shown_in (talk_in blocks ++ talk_at stage rest) ++ (shown_in (tried_at stage rest) ++ more) ≡ entries_in blocks ++ rest)
+shown_front stage blocks rest at = by stage at
+  where
+    shown_all : (talk : List Talk) → shown_in (talk_in blocks ++ talk) ≡ entries_in blocks ++ shown_in talk
+    shown_all talk = flat_map-append shown_by (talk_in blocks) talk ∙ ap (λ l. l ++ shown_in talk) (shown_blocks blocks)
+
+    before_rest : (talk : List Talk) → shown_in talk ≡ [] → shown_in (talk_in blocks ++ talk) ≡ entries_in blocks
+    before_rest talk h = shown_all talk ∙ (ap (λ l. entries_in blocks ++ l) h ∙ append-nil (entries_in blocks))
+
+    by : (stage : Stage) → IsAt stage rest → (more : List Entry) × (shown_in (talk_in blocks ++ talk_at stage rest) ++ (shown_in (tried_at stage rest) ++ more) ≡ entries_in blocks ++ rest)
+    by Asking at = (rest, ap (λ l. l ++ rest) (before_rest [] refl))
+    by (Given line) at = (rest, ap (λ l. l ++ rest) (before_rest (Handed line ∷ []) refl))
+    by (Feeding line) at = ([], ap (λ l. l ++ ((rest ++ []) ++ [])) (before_rest (Handed line ∷ []) refl) ∙ ap (λ l. entries_in blocks ++ l) (append-nil (rest ++ []) ∙ append-nil rest))
+    by Closing at = ([], ap (λ l. l ++ ((rest ++ []) ++ [])) (before_rest (Over ∷ []) refl) ∙ ap (λ l. entries_in blocks ++ l) (append-nil (rest ++ []) ∙ append-nil rest))
+    by Done at = ([], append-nil _ ∙ (shown_all (Over ∷ (Shown rest ∷ [])) ∙ ap (λ l. entries_in blocks ++ l) (append-nil rest)))
+
+-- a front of what is printed for all entries was written
+front_of : (es a b more : List Entry) (old mid new : Option (List ℕ)) → a ++ (b ++ more) ≡ es → mid ≡ followed old (concat (prints_of a)) → WritesFront (concat (prints_of b)) mid new
+    → WritesFront (concat (prints_of es)) old new
+front_of es a b more old mid new is held w = record {
+  front = concat (prints_of a) ++ w.front;
+  begins = record {
+    later = w.begins.later ++ concat (prints_of more);
+    is = regroup (concat (prints_of a)) w.front w.begins.later (concat (prints_of more))
+        ∙ (ap (λ t. concat (prints_of a) ++ (t ++ concat (prints_of more))) w.begins.is
+        ∙ (ap (λ t. concat (prints_of a) ++ t) (sym (prints_append b more)) ∙ (sym (prints_append a (b ++ more)) ∙ ap (λ e. concat (prints_of e)) is)));
+  };
+  held = w.held ∙ (ap (λ o. followed o w.front) held ∙ followed_twice old (concat (prints_of a)) w.front);
+}
+  where
+    regroup : (a b c d : List ℕ) → (a ++ b) ++ (c ++ d) ≡ a ++ ((b ++ c) ++ d)
+    regroup a b c d = simp append_assoc
+
+all_written : (bytes : List ℕ) (old new : Option (List ℕ)) → new ≡ followed old bytes → WritesFront bytes old new
+all_written bytes old new h = record { front = bytes; begins = record { later = []; is = append-nil bytes }; held = h }
+
+wrote_front : (fault : LineFault) (bytes : List ℕ) (old new : Option (List ℕ)) → Wrote fault bytes old new → WritesFront bytes old new
+wrote_front Write bytes old new w = w
+wrote_front Read bytes old new w = all_written bytes old new w
+wrote_front OutOfMemory bytes old new w = all_written bytes old new w
+wrote_front InputFull bytes old new w = all_written bytes old new w
+
+nothing_written : (o : Option (List ℕ)) → WritesFront [] o o
+nothing_written o = all_written [] o o (sym (followed_nothing o))
+
+pub reckoned_fed : (r : Rules) (status : ℕ) (line : List ℕ) (es : List Entry) (x z : Note) → x.asked ≡ false → HasServed r status es (HasPassed line x z) (HasStuck line x z)
+    → (lines_fed es ≡ []) ⊎ (lines_fed es ≡ line ∷ [])
+reckoned_fed r status line es x z none s = by s.serves
+  where
+    by : Serves r es (Only (HasPassed line x z)) s.stage ⊎ ((fault : LineFault) × (status ≡ status_of_lines fault) × Serves r es (HasStuck line x z fault) s.stage)
+        → (lines_fed es ≡ []) ⊎ (lines_fed es ≡ line ∷ [])
+    by (inl h) = fed_is line es z.asked s.stage h.blocks h.rest h.begin h.at h.is (ap (λ b. unasked b line) (sym none) ∙ h.talk.handed)
+    by (inr h) = fed_is line es z.asked s.stage h.2.blocks h.2.rest h.2.begin h.2.at h.2.is (ap (λ b. unasked b line) (sym none) ∙ h.2.talk.handed)
+
+pub reckoned_front : (r : Rules) (status : ℕ) (line : List ℕ) (es : List Entry) (x z : Note) → HasServed r status es (HasPassed line x z) (HasStuck line x z)
+    → WritesFront (concat (prints_of es)) x.text z.text
+reckoned_front r status line es x z s = by s.serves
+  where
+    by : Serves r es (Only (HasPassed line x z)) s.stage ⊎ ((fault : LineFault) × (status ≡ status_of_lines fault) × Serves r es (HasStuck line x z fault) s.stage)
+        → WritesFront (concat (prints_of es)) x.text z.text
+    by (inl h) =
+        let front = shown_front s.stage h.blocks h.rest h.at in
+        front_of es _ [] (shown_in (tried_at s.stage h.rest) ++ front.0) x.text z.text z.text (front.1 ∙ sym h.is) h.talk.text (nothing_written z.text)
+    by (inr h) =
+        let front = shown_front s.stage h.2.blocks h.2.rest h.2.at in
+        front_of es _ (shown_in (tried_at s.stage h.2.rest)) front.0 x.text _ z.text (front.1 ∙ sym h.2.is) refl (wrote_front h.0 _ _ _ h.2.talk.text)
+
+over_said : (blocks : List Block) (rest : List Entry) (P : Type 0) → IfOver (talk_in blocks ++ (Over ∷ (Shown rest ∷ []))) P → P
+over_said [] rest P h = h
+over_said (b ∷ bs) rest P h = over_said bs rest P h
+
+pub reckoned_whole : (r : Rules) (status : ℕ) (line : List ℕ) (es : List Entry) (x z : Note) → x.asked ≡ false → status ≡ 0 → HasServed r status es (HasPassed line x z) (HasStuck line x z)
+    → (lines_fed es ≡ line ∷ []) × (z.text ≡ followed x.text (concat (prints_of es)))
+reckoned_whole r status line es x z none well served =
+    let s = served_done r es (HasPassed line x z) (HasStuck line x z) (subst (λ n. HasServed r n es (HasPassed line x z) (HasStuck line x z)) well served) in
+    let asked : z.asked ≡ true = over_said s.blocks s.rest _ s.talk.over in
+    let fed = lines_fed_append (entries_in s.blocks) s.rest
+    ∙ (ap (λ l. lines_fed (entries_in s.blocks) ++ l) (none_fed s.rest s.at) ∙ (append-nil (lines_fed (entries_in s.blocks)) ∙ fed_blocks s.blocks s.begin)) in
+    let handed = flat_map-append handed_by (talk_in s.blocks) (Over ∷ (Shown s.rest ∷ [])) ∙ (append-nil (handed_in (talk_in s.blocks)) ∙ handed_blocks s.blocks) in
+    let shown = flat_map-append shown_by (talk_in s.blocks) (Over ∷ (Shown s.rest ∷ [])) ∙ (ap (λ l. l ++ (s.rest ++ [])) (shown_blocks s.blocks) ∙ ap (λ l. entries_in s.blocks ++ l) (append-nil s.rest)) in (
+      ap lines_fed s.is ∙ (fed ∙ (sym handed ∙ (sym (append-nil _) ∙ (ap (λ b. handed_in (talk_in s.blocks ++ (Over ∷ (Shown s.rest ∷ []))) ++ unasked b line) (sym asked) ∙ (sym s.talk.handed ∙ ap (λ b. unasked b line) none))))),
+      s.talk.text ∙ ap (λ e. followed x.text (concat (prints_of e))) (shown ∙ sym s.is),
+    )

@@ -1,0 +1,81 @@
+-- The membership that words ask for is in range.
+use Rattle.std.specs.Prelude.{true, false, not, nat_le, nat_lt, ◌&&◌, ◌||◌, ◌^◌, IfSome, option_map, option_and_then, if◌then◌else◌}
+use Rattle.std.proofs.Common.{ℕ, Bool, List, ◌≡◌, ◌≤◌, Option, Some, None, refl, sym, ap, ◌∙◌, subst}
+use Rattle.std.proofs.lemmas.Bool.{and_parts, cond_both, leb-true, ltb-true}
+use Rattle.hpx_value.specs.declared.profile.Profile.{Profile}
+use Rattle.hpx_value.specs.Profiles.{IsValid}
+use Rattle.hpx_options.specs.Meanings.{Reading, Means, BadWord, reading_of}
+use Rattle.hpx_options.specs.declared.settings.App.{App}
+use Rattle.hpx_options.specs.declared.settings.App.TheVariants as Apps
+use Rattle.hpx_options.specs.declared.settings.Mode.{Mode}
+use Rattle.hpx_options.specs.declared.settings.Mode.TheVariants as As
+use Rattle.hpx_options.specs.declared.settings.Settings.{Settings}
+use Rattle.hpx_top.specs.Usage.{are_places, is_tuned, task_of}
+use Rattle.hpx_process.specs.declared.membership.Errand.{Errand}
+use Rattle.hpx_process.specs.declared.membership.Role.{Role}
+use Rattle.hpx_process.specs.Memberships.{IsMembership, IsRole, errand_of, membership_by, membership_in, membership_of, membership_with, role_of}
+
+-- credit and cache in their ranges
+tuned : (p : Profile) → is_tuned p ≡ true → IsValid p
+tuned p e =
+    let log = nat_le 8 p.credit_log in
+    let logs = nat_le p.credit_log 31 in
+    let least = nat_le (2 ^ p.credit_log) p.credit_limit in
+    let most = nat_le p.credit_limit (2 ^ 100) in
+    let cache = nat_le 1 p.cache in
+    let all = and_parts (log && logs && least && most && cache) (nat_le p.cache 4096) e in
+    let five = and_parts (log && logs && least && most) cache all.0 in
+    let four = and_parts (log && logs && least) most five.0 in
+    let three = and_parts (log && logs) least four.0 in
+    let two = and_parts log logs three.0 in
+    record {
+      log_least = leb-true 8 p.credit_log two.0;
+      log_most = leb-true p.credit_log 31 two.1;
+      limit_least = leb-true (2 ^ p.credit_log) p.credit_limit three.1;
+      limit_most = leb-true p.credit_limit (2 ^ 100) four.1;
+      cache_least = leb-true 1 p.cache five.1;
+      cache_most = leb-true p.cache 4096 all.1;
+    }
+
+role_in : (mode : Mode) (settles : Bool) (n : ℕ) → 1 ≤ n → IfSome (role_of mode settles n) (λ role. IsRole role.0 n)
+role_in As.Hosted settles n some = tt
+role_in (As.Console port) settles n some = some
+role_in (As.Worker node port) settles n some =
+    cond_both (nat_le 1 node && nat_lt node n) _ _ (λ o. IfSome o (λ role. IsRole role.0 n))
+    (λ e.
+    let both = and_parts (nat_le 1 node) (nat_lt node n) e in
+    (leb-true 1 node both.0, ltb-true node n both.1))
+    (λ e. tt)
+
+with_errand : (settings : Settings) (role : Role) (port : ℕ) (errand : Option Errand) → IsRole role settings.localities → settings.localities ≤ 64 → IsValid settings.profile
+    → IfSome (option_map (membership_with settings role port) errand) IsMembership
+with_errand settings role port None is few valid = tt
+with_errand settings role port (Some errand) is few valid = record { role = is; few = few; profile = valid }
+
+with_role : (settings : Settings) (role : Option (Role × ℕ)) (errand : Option Errand) → IfSome role (λ r. IsRole r.0 settings.localities) → settings.localities ≤ 64 → IsValid settings.profile
+    → IfSome (option_and_then (λ r. option_map (membership_with settings r.0 r.1) errand) role) IsMembership
+with_role settings None errand is few valid = tt
+with_role settings (Some role) errand is few valid = with_errand settings role.0 role.1 errand is few valid
+
+none_of : (a b c : Bool) → (a || not b || not c) ≡ false → (b ≡ true) × (c ≡ true)
+none_of false true true h = (refl, refl)
+none_of false true false h = absurd (let no : true ≡ false = h in cc)
+none_of false false c h = absurd (let no : true ≡ false = h in cc)
+none_of true b c h = absurd (let no : true ≡ false = h in cc)
+
+by_settings : (settings : Settings) → IfSome (membership_of settings) IsMembership
+by_settings settings =
+    cond_both (settings.journal || not (are_places settings.localities) || not (is_tuned settings.profile)) _ _ (λ o. IfSome o IsMembership)
+    (λ e. tt)
+    (λ e.
+    let both = none_of settings.journal (are_places settings.localities) (is_tuned settings.profile) e in
+    let places = and_parts (nat_le 1 settings.localities) (nat_le settings.localities 64) both.0 in
+    with_role settings (role_of settings.mode settings.settle settings.localities) (option_and_then errand_of (task_of settings.app))
+    (role_in settings.mode settings.settle settings.localities (leb-true 1 settings.localities places.0)) (leb-true settings.localities 64 places.1) (tuned settings.profile both.1))
+
+by_reading : (reading : Reading) → IfSome (membership_by reading) IsMembership
+by_reading (BadWord place) = tt
+by_reading (Means settings) = by_settings settings
+
+pub membership_fits : (words : List (List ℕ)) → IfSome (membership_in words) IsMembership
+membership_fits words = by_reading (reading_of words)
