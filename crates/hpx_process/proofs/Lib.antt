@@ -4,3 +4,4 @@ pub mod Passing
 pub mod Texts
 pub mod Served
 pub mod Words
+pub mod Short

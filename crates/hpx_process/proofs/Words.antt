@@ -1,8 +1,7 @@
 -- The membership that words ask for is in range.
-use Rattle.std.specs.Prelude.{true, false, not, nat_le, nat_lt, ◌&&◌, ◌||◌, ◌^◌, IfSome, option_map, option_and_then, if◌then◌else◌}
+use Rattle.std.specs.Prelude.{true, false, not, nat_le, nat_lt, ◌&&◌, ◌||◌, IfSome, option_map, option_and_then, if◌then◌else◌}
 use Rattle.std.proofs.Common.{ℕ, Bool, List, ◌≡◌, ◌≤◌, Option, Some, None, refl, sym, ap, ◌∙◌, subst}
 use Rattle.std.proofs.lemmas.Bool.{and_parts, cond_both, leb-true, ltb-true}
-use Rattle.hpx_value.specs.declared.profile.Profile.{Profile}
 use Rattle.hpx_value.specs.Profiles.{IsValid}
 use Rattle.hpx_options.specs.Meanings.{Reading, Means, BadWord, reading_of}
 use Rattle.hpx_options.specs.declared.settings.App.{App}
@@ -10,32 +9,14 @@ use Rattle.hpx_options.specs.declared.settings.App.TheVariants as Apps
 use Rattle.hpx_options.specs.declared.settings.Mode.{Mode}
 use Rattle.hpx_options.specs.declared.settings.Mode.TheVariants as As
 use Rattle.hpx_options.specs.declared.settings.Settings.{Settings}
-use Rattle.hpx_top.specs.Usage.{are_places, is_tuned, task_of}
+use Rattle.hpx_top.specs.Usage.{are_places, is_tuned, notice_in, or_nowhere, printed_of, reading_request, request_by, setup_of, task_of}
+use Rattle.hpx_top.specs.declared.task.Notice.{Notice}
+use Rattle.hpx_top.specs.declared.task.Request.TheVariants.{Run}
+use Rattle.hpx_top.specs.declared.task.Setup.{Setup}
+use Rattle.hpx_top.proofs.TaskLemmas.{tuned}
 use Rattle.hpx_process.specs.declared.membership.Errand.{Errand}
 use Rattle.hpx_process.specs.declared.membership.Role.{Role}
 use Rattle.hpx_process.specs.Memberships.{IsMembership, IsRole, errand_of, membership_by, membership_in, membership_of, membership_with, role_of}
-
--- credit and cache in their ranges
-tuned : (p : Profile) → is_tuned p ≡ true → IsValid p
-tuned p e =
-    let log = nat_le 8 p.credit_log in
-    let logs = nat_le p.credit_log 31 in
-    let least = nat_le (2 ^ p.credit_log) p.credit_limit in
-    let most = nat_le p.credit_limit (2 ^ 100) in
-    let cache = nat_le 1 p.cache in
-    let all = and_parts (log && logs && least && most && cache) (nat_le p.cache 4096) e in
-    let five = and_parts (log && logs && least && most) cache all.0 in
-    let four = and_parts (log && logs && least) most five.0 in
-    let three = and_parts (log && logs) least four.0 in
-    let two = and_parts log logs three.0 in
-    record {
-      log_least = leb-true 8 p.credit_log two.0;
-      log_most = leb-true p.credit_log 31 two.1;
-      limit_least = leb-true (2 ^ p.credit_log) p.credit_limit three.1;
-      limit_most = leb-true p.credit_limit (2 ^ 100) four.1;
-      cache_least = leb-true 1 p.cache five.1;
-      cache_most = leb-true p.cache 4096 all.1;
-    }
 
 role_in : (mode : Mode) (settles : Bool) (n : ℕ) → 1 ≤ n → IfSome (role_of mode settles n) (λ role. IsRole role.0 n)
 role_in As.Hosted settles n some = tt
@@ -79,3 +60,40 @@ by_reading (Means settings) = by_settings settings
 
 pub membership_fits : (words : List (List ℕ)) → IfSome (membership_in words) IsMembership
 membership_fits words = by_reading (reading_of words)
+
+-- ---- what is only printed asks for none
+
+runs : (setup : Option Setup) (notice : Notice) → printed_of (or_nowhere (option_map Run setup)) ≡ Some notice → ⊥
+runs None notice h = let no : None ≡ Some notice = h in cc
+runs (Some setup) notice h = let no : None ≡ Some notice = h in cc
+
+no_task : (settings : Settings) (app : App) (notice : Notice) → printed_of (or_nowhere (request_by settings app)) ≡ Some notice → task_of app ≡ None
+no_task settings Apps.Help notice h = refl
+no_task settings Apps.Version notice h = refl
+no_task settings Apps.ListCounters notice h = refl
+no_task settings Apps.Accumulator notice h = absurd (runs (setup_of settings) notice h)
+no_task settings Apps.Space notice h = absurd (runs (setup_of settings) notice h)
+no_task settings (Apps.Fib number threshold) notice h = absurd (runs (setup_of settings) notice h)
+no_task settings (Apps.Stencil points parts steps) notice h = absurd (runs (setup_of settings) notice h)
+no_task settings (Apps.Load start lines) notice h = absurd (runs (setup_of settings) notice h)
+no_task settings Apps.Check notice h = refl
+no_task settings (Apps.Collect op start) notice h = refl
+no_task settings (Apps.Vector points parts) notice h = refl
+
+without_errand : (settings : Settings) (role : Option (Role × ℕ)) (errand : Option Errand) → errand ≡ None
+    → option_and_then (λ r. option_map (membership_with settings r.0 r.1) errand) role ≡ None
+without_errand settings None errand none = refl
+without_errand settings (Some role) errand none = ap (option_map (membership_with settings role.0 role.1)) none
+
+without_task : (settings : Settings) → task_of settings.app ≡ None → membership_of settings ≡ None
+without_task settings none =
+    cond_both (settings.journal || not (are_places settings.localities) || not (is_tuned settings.profile)) _ _ (λ o. o ≡ None)
+    (λ e. refl)
+    (λ e. without_errand settings (role_of settings.mode settings.settle settings.localities) (option_and_then errand_of (task_of settings.app)) (ap (option_and_then errand_of) none))
+
+by_notice : (reading : Reading) (notice : Notice) → printed_of (reading_request reading) ≡ Some notice → membership_by reading ≡ None
+by_notice (BadWord place) notice h = refl
+by_notice (Means settings) notice h = without_task settings (no_task settings settings.app notice h)
+
+pub no_membership : (words : List (List ℕ)) (notice : Notice) → notice_in words ≡ Some notice → membership_in words ≡ None
+no_membership words notice h = by_notice (reading_of words) notice h

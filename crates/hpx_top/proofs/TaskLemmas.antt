@@ -55,7 +55,7 @@ by_app Apps.Help = tt
 by_app Apps.Version = tt
 by_app Apps.ListCounters = tt
 
-tuned : (p : Profile) → is_tuned p ≡ true → IsValid p
+pub tuned : (p : Profile) → is_tuned p ≡ true → IsValid p
 tuned p e =
     let log = nat_le 8 p.credit_log in
     let logs = nat_le p.credit_log 31 in
