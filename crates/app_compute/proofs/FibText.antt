@@ -46,12 +46,12 @@ waits_at_boot law line some = record {
 
 module _ (law : Rules) (judged : IsJudged law) (a t : ℕ) (question : IsQuestion a t) where
   -- wherever the pool comes to from there
-  reached : (k : ℕ) (q : Pool) → Steps law k (fed (at_rest (boot_pool law)) (fed_line a t)) q → Phase law.localities t a (fib_line a t) q
+  pub reached : (k : ℕ) (q : Pool) → Steps law k (fed (at_rest (boot_pool law)) (fed_line a t)) q → Phase law.localities t a (fib_line a t) q
   reached k q steps =
       phases law judged.computes t a (fib_line a t) question.large question.few question.number (line_asks a t question.number question.large question.few) k
       (fed (at_rest (boot_pool law)) (fed_line a t)) q (Waits (waits_at_boot law (fib_line a t) judged.some)) steps
 
-  at_end : (text : List (List ℕ)) (p' : Pool) → IsPlainBlock law (boot_pool law) (fed_line a t) text p' → text ≡ fib_text a ∷ []
+  pub at_end : (text : List (List ℕ)) (p' : Pool) → IsPlainBlock law (boot_pool law) (fed_line a t) text p' → text ≡ fib_text a ∷ []
   at_end text p' b =
       b.printed ∙ ends law judged.computes t a (fib_line a t) question.large question.few question.number (line_asks a t question.number question.large question.few)
       b.end (reached b.steps b.end b.acts) b.idle

@@ -53,12 +53,12 @@ concat-append (x ∷ xs) ys = ap (λ z. x ++ z) (concat-append xs ys) ∙ sym (a
 
 module _ (law : Rules) (judged : IsJudged law) (p q s : ℕ) (asked : IsAsked p q s) where
   -- wherever the pool comes to from there
-  reached : (k : ℕ) (w : Pool) → Steps law k (fed (at_rest (boot_pool law)) (ring_fed p q s)) w → Phase law.localities (stencil_texts p s) (stencil_line p q s) w
+  pub reached : (k : ℕ) (w : Pool) → Steps law k (fed (at_rest (boot_pool law)) (ring_fed p q s)) w → Phase law.localities (stencil_texts p s) (stencil_line p q s) w
   reached k w steps =
       phases law judged.computes p q s asked (stencil_line p q s) (line_asks p q s asked) k (fed (at_rest (boot_pool law)) (ring_fed p q s)) w
       (Waits (waits_at_boot law (stencil_line p q s) judged.some)) steps
 
-  at_end : (text : List (List ℕ)) (p' : Pool) → IsPlainBlock law (boot_pool law) (ring_fed p q s) text p' → text ≡ stencil_texts p s
+  pub at_end : (text : List (List ℕ)) (p' : Pool) → IsPlainBlock law (boot_pool law) (ring_fed p q s) text p' → text ≡ stencil_texts p s
   at_end text p' b =
       b.printed ∙ ends law judged.computes p q s asked (stencil_line p q s) (line_asks p q s asked) b.end (reached b.steps b.end b.acts) b.idle
 

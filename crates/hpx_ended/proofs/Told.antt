@@ -1,5 +1,6 @@
 -- Members that tell their numbers up to a foreign arrival: in a join there is none.
-use Rattle.std.proofs.Common.{ℕ, zero, suc, List, [], ◌∷◌, ◌≡◌, ◌<◌, take}
+use Rattle.std.proofs.Common.{ℕ, zero, suc, List, [], ◌∷◌, ◌≡◌, ◌<◌, take, drop}
+use Rattle.std.specs.List.{AllByRecursion}
 use Rattle.hpx_journal.specs.Entries.{Rules}
 use Rattle.hpx_journal.specs.declared.entry.Entry.{Entry}
 use Rattle.hpx_journal.specs.declared.local.Local.{Local}
@@ -8,10 +9,11 @@ use Rattle.hpx_journal.specs.Roots.{roots}
 use Rattle.hpx_journal.specs.Laws.{HasGrammar}
 use Rattle.hpx_journal.specs.Whole.{IsJoin, IsClean, IsQuiet, part, replayed}
 use Rattle.hpx_journal.proofs.Start.{joined_legal, legal_part_clean}
-use Rattle.hpx_ended.specs.Waves.{Answers, IsWaveRun, IsToldRun, IsBetween, IsAtRest, Agree}
+use Rattle.hpx_journal.specs.Sessions.{FeedsNothing}
+use Rattle.hpx_ended.specs.Waves.{Answers, IsWaveRun, IsToldRun, IsBetween, IsAtRest, Agree, greatest}
 use Rattle.hpx_ended.specs.Tally.{Tally, Tells, verdict_of}
 use Rattle.hpx_ended.specs.declared.round.Verdict.TheVariants.{Ended}
-use Rattle.hpx_ended.proofs.Waves.{between_road, between_rest, between_quiet}
+use Rattle.hpx_ended.proofs.Waves.{between_road, between_rest, between_quiet, end_quiet, last_between}
 use Rattle.hpx_ended.proofs.Tallies.{tells_ended}
 
 clean_front : (r : Rules) (s : Local) (es : List Entry) (n : ℕ) → IsClean r s es → IsClean r s (take n es)
@@ -42,3 +44,7 @@ module _ (r : Rules) (es : List Entry) (v : Answers) (grammar : HasGrammar r) (j
 
     pub told_quiet : (t : ℕ) → IsBetween r v w t → IsQuiet r (replayed r (take t es))
     told_quiet t between = between_quiet r es (joined_legal r grammar es join) v told_run w agree t between
+
+    pub told_end : AllByRecursion (λ e. FeedsNothing e.event) (drop (v.lengths w 0) (part 0 es)) → IsQuiet r (replayed r es)
+    told_end unfed =
+        end_quiet r es (joined_legal r grammar es join) v told_run w agree (greatest r.localities (v.places w)) (last_between r es v w told_run within) unfed

@@ -1,31 +1,31 @@
 -- What two waves of one round show.
-use Rattle.std.proofs.Common.{ℕ, zero, suc, List, [], ◌∷◌, ◌++◌, ◌≡◌, ◌≢◌, ◌+◌, ◌<◌, ◌≤◌, sym, ap, ◌∙◌, subst, arith, inl, inr, length, take, drop, append-nil}
+use Rattle.std.proofs.Common.{ℕ, zero, suc, true, false, List, [], ◌∷◌, ◌++◌, ◌≡◌, ◌≢◌, ◌+◌, ◌<◌, ◌≤◌, refl, sym, ap, ◌∙◌, subst, arith, inl, inr, length, take, drop, append-nil}
 use Rattle.std.specs.Prelude.{max}
 use Rattle.std.specs.List.{AllByRecursion}
 use Rattle.std.proofs.Math.Nat.{le-max_left, le-max_right, max-le}
 use Rattle.std.proofs.lemmas.List.{take-append-drop}
 use Rattle.std.proofs.lemmas.List.{length-append}
-use Rattle.std.proofs.lemmas.Bool.{cases_eq}
-use Rattle.hpx_journal.specs.Bags.{total}
-use Rattle.hpx_journal.specs.Entries.{Rules}
+use Rattle.std.proofs.lemmas.Bool.{cases_eq, eq-eqb}
+use Rattle.hpx_journal.specs.Bags.{total, Covers}
+use Rattle.hpx_journal.specs.Entries.{Rules, same_frame}
 use Rattle.hpx_journal.specs.declared.entry.Event.{Event}
-use Rattle.hpx_journal.specs.declared.entry.Event.TheVariants.{Line}
+use Rattle.hpx_journal.specs.declared.entry.Event.TheVariants.{Line, In}
 use Rattle.hpx_journal.specs.declared.entry.Entry.{Entry}
 use Rattle.hpx_journal.specs.Local.{boot, after}
 use Rattle.hpx_journal.specs.declared.local.Local.{Local}
 use Rattle.hpx_journal.specs.Rows.{Allowed, Row}
 use Rattle.hpx_journal.specs.Roots.{roots}
-use Rattle.hpx_journal.specs.Whole.{IsLegal, IsQuiet, IsQuietAt, part, replayed}
+use Rattle.hpx_journal.specs.Whole.{IsLegal, IsQuiet, IsQuietAt, arrives_at, part, replayed}
 use Rattle.hpx_journal.specs.Laws.{IsLegalLocal, ins, outs}
 use Rattle.hpx_journal.specs.Sessions.{FeedsNothing}
 use Rattle.hpx_journal.proofs.Bags.{total-le}
 use Rattle.hpx_journal.proofs.Start.{first}
-use Rattle.hpx_journal.proofs.Fronts.{legal_front}
+use Rattle.hpx_journal.proofs.Fronts.{legal_front, legal_rest}
 use Rattle.hpx_journal.proofs.Grow.{run_part, part_append, legal_part, legal_carried}
 use Rattle.hpx_journal.proofs.Quiet.{legal_lengths, legal_road_empty, legal_quiet}
 use Rattle.hpx_journal.proofs.Deaths.{legal_all_freed}
 use Rattle.hpx_journal.proofs.Failures.{AreBelow, below_all}
-use Rattle.hpx_ended.specs.Waves.{IsAtRest, BeginsAwake, Answers, IsWaveRun, IsBetween, Agree, sent_in, greatest}
+use Rattle.hpx_ended.specs.Waves.{IsAtRest, BeginsAwake, Wakes, Answers, IsWaveRun, IsBetween, Agree, sent_in, greatest}
 use Rattle.hpx_ended.proofs.Parts.{take_take, drop_more, part_take, part_drop, part_more, part_behind, ins_append, outs_append, ins_parts, outs_parts, total-squeeze, stays_asleep}
 
 all-left : {X : Type 0} (P : X → Type 0) (xs ys : List X) → AllByRecursion P (xs ++ ys) → AllByRecursion P xs
@@ -206,9 +206,53 @@ module _ (r : Rules) (es : List Entry) (legal : IsLegal r es) (v : Answers) (run
     pub between_rest : IsAtRest r k (part k (take t es))
     between_rest = subst (IsAtRest r k) (sym unchanged) (run.rest w k first_wave here).rest
 
+    -- what it writes behind t is behind its answer
+    behind_t : drop (v.lengths w k) (part k es) ≡ part k (drop t es)
+    behind_t =
+        ap (λ n. drop n (part k es)) (sym (run.stand w k first_wave here))
+        ∙ (part_drop k es (v.places w k) ∙ (part_behind k es (v.places w k) t (between.behind k here) ∙ ap (λ zs. zs ++ part k (drop t es)) silent))
+
+    wakes_behind : BeginsAwake (part k (drop t es))
+    wakes_behind = subst BeginsAwake behind_t (run.rest w k first_wave here).next
+
+    unfed_behind : AllByRecursion (λ e. FeedsNothing e.event) (drop (v.lengths w 0) (part 0 es)) → AllByRecursion (λ e. FeedsNothing e.event) (part k (drop t es))
+    unfed_behind h = elim (cases_eq k 0) [
+      | inl z ↦ subst (AllByRecursion (λ e. FeedsNothing e.event)) behind_t
+          (subst (λ j. AllByRecursion (λ e. FeedsNothing e.event) (drop (v.lengths w j) (part j es))) (sym z) h)
+      | inr d ↦ subst (AllByRecursion (λ e. FeedsNothing e.event)) behind_t
+          (all-right (λ e. FeedsNothing e.event) (take (v.lengths w k) (part k es)) (drop (v.lengths w k) (part k es))
+          (subst (AllByRecursion (λ e. FeedsNothing e.event)) (sym (take-append-drop (v.lengths w k) (part k es)))
+          (no_lines r (boot (roots r.localities k) k) (part k es) d (legal_part r (first r) es legal k))))
+    ]
+
   pub between_quiet : IsQuiet r (replayed r (take t es))
   between_quiet =
       legal_quiet r front front_legal
       (λ k h. subst IsQuietAt (sym (run_part r (first r) front k)) (between_rest k h).still)
       same
       (λ o dead. legal_all_freed r front front_legal between_road (λ k h. (between_rest k h).frees) o dead)
+
+  -- ---- where no line is fed behind the numbers of member 0, nothing follows
+
+  follower : (e : Entry) (later : List Entry) → drop t es ≡ e ∷ later → AllByRecursion (λ e. FeedsNothing e.event) (drop (v.lengths w 0) (part 0 es)) → ⊥
+  follower e later is unfed =
+      let may = (legal_rest r (first r) front (e ∷ later) (subst (λ l. IsLegal r (front ++ l)) is (subst (IsLegal r) (sym (take-append-drop t es)) legal))).0 in
+      let first_is : part e.at (drop t es) ≡ e ∷ part e.at later = ap (part e.at) is ∙ own_first e later in
+      asleep e.at e.event (subst BeginsAwake first_is (wakes_behind e.at may.place))
+      (subst (AllByRecursion (λ x. FeedsNothing x.event)) first_is (unfed_behind e.at may.place unfed)).0
+      (subst (λ road. Covers same_frame road (arrives_at e.at e.event)) between_road may.road)
+    where
+      own_first : (e : Entry) (later : List Entry) → part e.at (e ∷ later) ≡ e ∷ part e.at later
+      own_first e later = rw (eq-eqb e.at e.at refl) refl
+
+      asleep : (k : ℕ) (e : Event) → Wakes e → FeedsNothing e → Covers same_frame [] (arrives_at k e) → ⊥
+      asleep k (Line a bytes) w f c = f
+      asleep k (In bytes) w f c = let no : false ≡ true = c.0 in cc
+      asleep k _ w f c = w
+
+  pub end_quiet : AllByRecursion (λ e. FeedsNothing e.event) (drop (v.lengths w 0) (part 0 es)) → IsQuiet r (replayed r es)
+  end_quiet unfed = by (drop t es) refl
+    where
+      by : (later : List Entry) → drop t es ≡ later → IsQuiet r (replayed r es)
+      by [] is = subst (λ l. IsQuiet r (replayed r l)) (sym (append-nil front) ∙ (ap (λ l. front ++ l) (sym is) ∙ take-append-drop t es)) between_quiet
+      by (e ∷ later) is = absurd (follower e later is unfed)
