@@ -5,3 +5,4 @@ pub mod Texts
 pub mod Served
 pub mod Words
 pub mod Short
+pub mod Heard

@@ -9,14 +9,17 @@ use Rattle.hpx_options.specs.declared.settings.App.TheVariants as Apps
 use Rattle.hpx_options.specs.declared.settings.Mode.{Mode}
 use Rattle.hpx_options.specs.declared.settings.Mode.TheVariants as As
 use Rattle.hpx_options.specs.declared.settings.Settings.{Settings}
-use Rattle.hpx_top.specs.Usage.{are_places, is_tuned, notice_in, or_nowhere, printed_of, reading_request, request_by, setup_of, task_of}
+use Rattle.hpx_top.specs.Usage.{IsTask, are_places, is_tuned, notice_in, or_nowhere, printed_of, reading_request, request_by, setup_of, task_of}
 use Rattle.hpx_top.specs.declared.task.Notice.{Notice}
 use Rattle.hpx_top.specs.declared.task.Request.TheVariants.{Run}
+use Rattle.hpx_top.specs.declared.consoles.UserConsole.TheVariants.{Accumulator, Space}
 use Rattle.hpx_top.specs.declared.task.Setup.{Setup}
-use Rattle.hpx_top.proofs.TaskLemmas.{tuned}
+use Rattle.hpx_top.specs.declared.task.Task.{Task}
+use Rattle.hpx_top.specs.declared.task.Task.TheVariants as Tasks
+use Rattle.hpx_top.proofs.TaskLemmas.{by_app, tuned}
 use Rattle.hpx_process.specs.declared.membership.Errand.{Errand}
 use Rattle.hpx_process.specs.declared.membership.Role.{Role}
-use Rattle.hpx_process.specs.Memberships.{IsMembership, IsRole, errand_of, membership_by, membership_in, membership_of, membership_with, role_of}
+use Rattle.hpx_process.specs.Memberships.{IsErrand, IsMembership, IsRole, errand_of, membership_by, membership_in, membership_of, membership_with, role_of}
 
 role_in : (mode : Mode) (settles : Bool) (n : ℕ) → 1 ≤ n → IfSome (role_of mode settles n) (λ role. IsRole role.0 n)
 role_in As.Hosted settles n some = tt
@@ -28,15 +31,24 @@ role_in (As.Worker node port) settles n some =
     (leb-true 1 node both.0, ltb-true node n both.1))
     (λ e. tt)
 
-with_errand : (settings : Settings) (role : Role) (port : ℕ) (errand : Option Errand) → IsRole role settings.localities → settings.localities ≤ 64 → IsValid settings.profile
-    → IfSome (option_map (membership_with settings role port) errand) IsMembership
-with_errand settings role port None is few valid = tt
-with_errand settings role port (Some errand) is few valid = record { role = is; few = few; profile = valid }
+errand_fits : (task : Option Task) → IfSome task IsTask → IfSome (option_and_then errand_of task) IsErrand
+errand_fits None h = tt
+errand_fits (Some (Tasks.Console Accumulator)) h = tt
+errand_fits (Some (Tasks.Console Space)) h = tt
+errand_fits (Some (Tasks.Fib question)) h = h
+errand_fits (Some (Tasks.Stencil shape)) h = h
+errand_fits (Some (Tasks.Load load)) h = tt
 
-with_role : (settings : Settings) (role : Option (Role × ℕ)) (errand : Option Errand) → IfSome role (λ r. IsRole r.0 settings.localities) → settings.localities ≤ 64 → IsValid settings.profile
+with_errand : (settings : Settings) (role : Role) (port : ℕ) (errand : Option Errand) → IsRole role settings.localities → IfSome errand IsErrand
+    → settings.localities ≤ 64 → IsValid settings.profile → IfSome (option_map (membership_with settings role port) errand) IsMembership
+with_errand settings role port None is does few valid = tt
+with_errand settings role port (Some errand) is does few valid = record { role = is; errand = does; few = few; profile = valid }
+
+with_role : (settings : Settings) (role : Option (Role × ℕ)) (errand : Option Errand) → IfSome role (λ r. IsRole r.0 settings.localities) → IfSome errand IsErrand
+    → settings.localities ≤ 64 → IsValid settings.profile
     → IfSome (option_and_then (λ r. option_map (membership_with settings r.0 r.1) errand) role) IsMembership
-with_role settings None errand is few valid = tt
-with_role settings (Some role) errand is few valid = with_errand settings role.0 role.1 errand is few valid
+with_role settings None errand is does few valid = tt
+with_role settings (Some role) errand is does few valid = with_errand settings role.0 role.1 errand is does few valid
 
 none_of : (a b c : Bool) → (a || not b || not c) ≡ false → (b ≡ true) × (c ≡ true)
 none_of false true true h = (refl, refl)
@@ -52,7 +64,8 @@ by_settings settings =
     let both = none_of settings.journal (are_places settings.localities) (is_tuned settings.profile) e in
     let places = and_parts (nat_le 1 settings.localities) (nat_le settings.localities 64) both.0 in
     with_role settings (role_of settings.mode settings.settle settings.localities) (option_and_then errand_of (task_of settings.app))
-    (role_in settings.mode settings.settle settings.localities (leb-true 1 settings.localities places.0)) (leb-true settings.localities 64 places.1) (tuned settings.profile both.1))
+    (role_in settings.mode settings.settle settings.localities (leb-true 1 settings.localities places.0))
+    (errand_fits (task_of settings.app) (by_app settings.app)) (leb-true settings.localities 64 places.1) (tuned settings.profile both.1))
 
 by_reading : (reading : Reading) → IfSome (membership_by reading) IsMembership
 by_reading (BadWord place) = tt

@@ -4,3 +4,4 @@ pub mod Asked
 pub mod Slips
 pub mod Parts
 pub mod Members
+pub mod Joined

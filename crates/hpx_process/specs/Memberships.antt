@@ -5,8 +5,8 @@ use Rattle.hpx_options.specs.Meanings.{Reading, Means, BadWord, reading_of}
 use Rattle.hpx_options.specs.declared.settings.Mode.{Mode}
 use Rattle.hpx_options.specs.declared.settings.Mode.TheVariants as As
 use Rattle.hpx_options.specs.declared.settings.Settings.{Settings}
-use Rattle.app_compute.specs.FibLaw.{fed_line}
-use Rattle.app_compute.specs.StencilLaw.{ring_fed}
+use Rattle.app_compute.specs.FibLaw.{IsQuestion, fed_line}
+use Rattle.app_compute.specs.StencilLaw.{IsAsked, ring_fed}
 use Rattle.hpx_top.specs.Usage.{are_places, is_tuned, task_of}
 use Rattle.hpx_top.specs.declared.consoles.UserConsole.TheVariants.{Accumulator}
 use Rattle.hpx_top.specs.declared.task.Task.{Task}
@@ -74,8 +74,18 @@ abbrev pub IsRole : Role → ℕ → Type 0
 IsRole (Console settles) n = 1 ≤ n
 IsRole (Worker node) n = (1 ≤ node) × (node < n)
 
--- from 1 to 64 localities, and a profile in its ranges
+-- a number and a threshold, or a ring, in their ranges
+abbrev pub IsProblem : Problems.Problem → Type 0
+IsProblem (Number question) = IsQuestion question.number question.threshold
+IsProblem (Ring shape) = IsAsked shape.points shape.parts shape.steps
+
+abbrev pub IsErrand : Errand → Type 0
+IsErrand Session = Unit {0}
+IsErrand (Problem problem) = IsProblem problem
+
+-- from 1 to 64 localities, and all numbers in their ranges
 pub record IsMembership (m : Membership) : Type 0 where
   pub role : IsRole m.role m.localities
+  pub errand : IsErrand m.errand
   pub few : m.localities ≤ 64
   pub profile : IsValid m.profile

@@ -3,6 +3,7 @@
 
 pub mod desk;
 pub mod join;
+pub mod law;
 pub mod membership;
 pub mod problem;
 pub mod sheet;

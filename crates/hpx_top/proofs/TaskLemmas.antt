@@ -15,7 +15,7 @@ use Rattle.hpx_top.specs.declared.task.Setup.{Setup}
 use Rattle.hpx_top.specs.declared.task.Task.{Task}
 use Rattle.hpx_top.specs.Usage.{are_asked, are_places, are_threads, is_alone, is_load, is_ring, is_plain, is_tuned, bad_word, notice_in, or_nowhere, place_of, printed_of, reading_request, request_by, request_in, request_of, setup_of, setup_with, task_of, IsRequest, IsSetup, IsTask}
 
-by_app : (app : App) → IfSome (task_of app) IsTask
+pub by_app : (app : App) → IfSome (task_of app) IsTask
 by_app Apps.Accumulator = tt
 by_app (Apps.Fib number threshold) =
     cond_both (are_asked number threshold) _ _ (λ o. IfSome o IsTask)

@@ -1,0 +1,175 @@
+-- What the members of a session leave, put together.
+use Rattle.std.specs.Prelude.{suc, zero, ◌+◌, ◌≤◌, ◌<◌, ◌≢◌, ◌⊎◌, IfSome, drop, length}
+use Rattle.std.specs.List.{AllByRecursion}
+use Rattle.std.proofs.Common.{ℕ, Bool, List, [], ◌∷◌, ◌++◌, ◌≡◌, Option, Some, None, refl, sym, ap, ◌∙◌, subst, arith, inl, inr}
+use Rattle.hpx_value.specs.declared.profile.Profile.{Profile}
+use Rattle.hpx_journal.specs.Entries.{Rules}
+use Rattle.hpx_journal.specs.Foreign.{NodeKeeps}
+use Rattle.hpx_journal.specs.Laws.{RefusesForCause, count_events, is_failed, is_refused_count}
+use Rattle.hpx_journal.specs.Pool.{NoneFails, prints_of}
+use Rattle.hpx_journal.specs.Sessions.{FeedsNothing}
+use Rattle.hpx_journal.specs.Whole.{IsJoin, IsLegal, IsQuiet, part, replayed}
+use Rattle.hpx_journal.proofs.Failures.{legal_refusals}
+use Rattle.hpx_journal.proofs.Grow.{part_at}
+use Rattle.hpx_journal.proofs.Start.{joined_legal}
+use Rattle.hpx_part.specs.Data.{Entry, Event, Line}
+use Rattle.hpx_tables.specs.Tables.{Tables}
+use Rattle.hpx_steps.specs.Rest.{rules_of}
+use Rattle.hpx_steps.proofs.AtRest.{rest_stands}
+use Rattle.hpx_node.proofs.RowLaws.{refuses_for_cause}
+use Rattle.hpx_ended.specs.Tally.{verdict_of}
+use Rattle.hpx_ended.specs.declared.round.Verdict.TheVariants.{Ended}
+use Rattle.hpx_member.specs.Leads.{Ends}
+use Rattle.hpx_member.specs.Rounds.{AreOwn, Closes, IsBehind, Last, Nothing, Asking, Ending, Refused, Turn, Fed, Began, Took, Anew, Closed, fed_at, line_at, lines_from, tally_of}
+use Rattle.hpx_member.specs.Seats.{IsNodeAt, IsPart}
+use Rattle.hpx_member.specs.declared.stop.MemberFault.{MemberFault}
+use Rattle.hpx_patient.proofs.Prints.{legal_prints}
+use Rattle.hpx_joined.specs.Ends.{HasEnded, line_by, lines_in}
+use Rattle.hpx_joined.proofs.Computed.{ended_quiet, number_printed, ring_printed}
+use Rattle.hpx_top.specs.Acts.{act_of}
+use Rattle.hpx_top.specs.Session.{lines_by, lines_fed}
+use Rattle.hpx_top.proofs.ActLemmas.{judged}
+use Rattle.hpx_process.specs.Joined.{AreHeard, AreJoined, problem_texts, waves_at}
+use Rattle.hpx_process.specs.Members.{IsMember, Left}
+use Rattle.hpx_process.specs.Memberships.{IsProblem, problem_line}
+use Rattle.hpx_process.specs.declared.problem.Problem as Problems
+use Rattle.hpx_process.specs.declared.problem.Problem.TheVariants.{Number, Ring}
+
+-- ---- lines stand before the waves of the last round
+
+all_weaker : (a b : ℕ) (xs : List ℕ) → a ≤ b → AllByRecursion (λ i. i < a) xs → AllByRecursion (λ i. i < b) xs
+all_weaker a b [] le h = tt
+all_weaker a b (x ∷ xs) le h = (omega (arith, h.0, le), all_weaker a b xs le h.1)
+
+fed_behind : (r : Rules) (es : List Entry) (turns : List Turn) (n : ℕ) → IsBehind turns n → AreOwn r es turns → AllByRecursion (λ i. i < n) (fed_at turns)
+fed_behind r es [] n b own = tt
+fed_behind r es (Fed e ∷ earlier) n b own = (b, all_weaker e n (fed_at earlier) (omega (arith, b)) (fed_behind r es earlier e own.1 own.2))
+fed_behind r es (Began p e x ∷ earlier) n b own = all_weaker e n (fed_at earlier) b (fed_behind r es earlier e own.1 own.2)
+fed_behind r es (Took from body c ∷ earlier) n b own = fed_behind r es earlier n b own
+fed_behind r es (Anew ∷ earlier) n b own = fed_behind r es earlier n b own
+fed_behind r es (Closed ∷ earlier) n b own = fed_behind r es earlier n b own
+
+before_last : (r : Rules) (es : List Entry) (turns : List Turn) (e : ℕ) (before : List ℕ) → waves_at turns ≡ e ∷ before → AreOwn r es turns → AllByRecursion (λ i. i < e) (fed_at turns)
+before_last r es [] e before is own = absurd (let no : [] ≡ e ∷ before = is in cc)
+before_last r es (Fed f ∷ earlier) e before is own = absurd (let no : [] ≡ e ∷ before = is in cc)
+before_last r es (Began p f x ∷ earlier) e before is own = let same : f ≡ e = cc in subst (λ n. AllByRecursion (λ i. i < n) (fed_at earlier)) same (fed_behind r es earlier f own.1 own.2)
+before_last r es (Took from body c ∷ earlier) e before is own = before_last r es earlier e before is own
+before_last r es (Anew ∷ earlier) e before is own = absurd (let no : [] ≡ e ∷ before = is in cc)
+before_last r es (Closed ∷ earlier) e before is own = absurd (let no : [] ≡ e ∷ before = is in cc)
+
+before_two : (r : Rules) (es : List Entry) (turns : List Turn) (f e : ℕ) (before : List ℕ) → waves_at turns ≡ f ∷ (e ∷ before) → AreOwn r es turns → AllByRecursion (λ i. i < e) (fed_at turns)
+before_two r es [] f e before is own = absurd (let no : [] ≡ f ∷ (e ∷ before) = is in cc)
+before_two r es (Fed g ∷ earlier) f e before is own = absurd (let no : [] ≡ f ∷ (e ∷ before) = is in cc)
+before_two r es (Began p g x ∷ earlier) f e before is own = let rest : waves_at earlier ≡ e ∷ before = cc in before_last r es earlier e before rest own.2
+before_two r es (Took from body c ∷ earlier) f e before is own = before_two r es earlier f e before is own
+before_two r es (Anew ∷ earlier) f e before is own = absurd (let no : [] ≡ f ∷ (e ∷ before) = is in cc)
+before_two r es (Closed ∷ earlier) f e before is own = absurd (let no : [] ≡ f ∷ (e ∷ before) = is in cc)
+
+all_parts : (P : ℕ → Type 0) (xs ys : List ℕ) → AllByRecursion P (xs ++ ys) → AllByRecursion P xs × AllByRecursion P ys
+all_parts P [] ys h = (tt, h)
+all_parts P (x ∷ xs) ys h = let rest = all_parts P xs ys h.1 in ((h.0, rest.0), rest.1)
+
+-- behind so many entries no line is fed, where all lines stand before
+none_behind : (n m : ℕ) (es : List Entry) → AllByRecursion (λ i. i < n + m) (lines_from n es) → AllByRecursion (λ e. FeedsNothing e.event) (drop m es)
+none_behind n zero [] h = tt
+none_behind n (suc m) [] h = tt
+none_behind n zero (e ∷ es) h =
+    let both = all_parts (λ i. i < n + 0) (lines_from (suc n) es) (line_at n e.event) h in
+    (no_line e.event both.1, none_behind (suc n) zero es (all_weaker (n + 0) (suc n + 0) (lines_from (suc n) es) (omega arith) both.0))
+  where
+    no_line : (x : Event) → AllByRecursion (λ i. i < n + 0) (line_at n x) → FeedsNothing x
+    no_line (Line a bytes) h = absurd (omega (arith, h.0))
+    no_line _ h = tt
+none_behind n (suc m) (e ∷ es) h =
+    let both = all_parts (λ i. i < n + suc m) (lines_from (suc n) es) (line_at n e.event) h in
+    none_behind (suc n) m es (all_weaker (n + suc m) (suc n + m) (lines_from (suc n) es) (omega arith) both.0)
+
+-- ---- the end of a console
+
+ends_well : (n : ℕ) (fault : Option MemberFault) (last : Last) → Ends n 0 fault last → (some : ℕ) × (last ≡ Ending some)
+ends_well n fault Nothing h = absurd (h refl)
+ends_well n fault (Asking wave some) (inl h) = absurd (omega (arith, h))
+ends_well n fault (Asking wave some) (inr h) = absurd (omega (arith, h))
+ends_well n fault (Ending some) h = (some, refl)
+ends_well n fault (Refused from body) h = absurd (omega (arith, h.0))
+
+lines_same : (es : List Entry) → lines_in es ≡ lines_fed es
+lines_same [] = refl
+lines_same (e ∷ es) = by e.event ∙ ap (λ l. lines_by e.event ++ l) (lines_same es)
+  where
+    by : (x : Event) → line_by x ++ lines_in es ≡ lines_by x ++ lines_in es
+    by (Line a bytes) = refl
+    by _ = refl
+
+-- ---- all of them
+
+module _ (n : ℕ) (p : Profile) (settles : Bool) (ms : ℕ → Left) (es : List Entry) (some : 1 ≤ n) (few : n ≤ 64) (j : AreJoined n p settles ms es) where
+  abbrev r : Rules
+  r = rules_of act_of n p
+
+  journal_at : (k : ℕ) → k < n → IsPart r k (ms k).entries
+  journal_at zero h = j.console.member.journal
+  journal_at (suc k) h = (j.workers (suc k) (omega arith) h).member.journal
+
+  pub joined : IsJoin r es
+  joined = record { parts = λ k h. subst (NodeKeeps r _) (sym (j.parts k h)) (journal_at k h).keeps; carried = j.carried }
+
+  legal : IsLegal r es
+  legal = joined_legal r (judged n p some few).grammar es joined
+
+  by_node : (k : ℕ) (t : Option Tables) (entries : List Entry) → IsPart r k entries → IfSome t (λ t. IsNodeAt act_of k n p t entries) → (t ≡ None → entries ≡ []) → RefusesForCause r entries
+  by_node k None entries at node unbooted = subst (RefusesForCause r) (sym (unbooted refl)) (record { few = omega arith })
+  by_node k (Some t) entries at node unbooted =
+      let stands = rest_stands t r entries (subst (λ q. _) node.profile (subst (λ m. _) node.localities node.stands)) in
+      subst (RefusesForCause r) (ap (λ i. part i entries) node.here ∙ part_at k entries at.own) (refuses_for_cause r t entries stands.stands)
+
+  cause_at : (k : ℕ) → k < n → RefusesForCause r (ms k).entries
+  cause_at zero h = by_node zero (ms zero).node (ms zero).entries (journal_at zero h) j.console.member.node (λ none. (j.console.member.unbooted none).1)
+  cause_at (suc k) h =
+      let w = (j.workers (suc k) (omega arith) h).member in
+      by_node (suc k) (ms (suc k)).node (ms (suc k)).entries (journal_at (suc k) h) w.node (λ none. (w.unbooted none).1)
+
+  -- where no Count is refused no action fails
+  calm : count_events is_refused_count es ≡ 0 → NoneFails es
+  calm none = omega (arith, legal_refusals r es legal (λ k h. subst (RefusesForCause r) (sym (j.parts k h)) (cause_at k h)), none)
+
+  module _ (well : (ms 0).status ≡ 0) (heard : AreHeard r es j.console.asked.asked.turns) where
+    abbrev turns : List Turn
+    turns = j.console.asked.asked.turns
+
+    ending : verdict_of (tally_of n turns) ≡ Ended
+    ending =
+        let last = ends_well n (ms 0).fault j.console.asked.last (subst (λ s. Ends n s (ms 0).fault j.console.asked.last) well j.console.asked.ends) in
+        (subst (Closes n settles turns) last.1 j.console.asked.asked.closes).1.0
+
+    pub has_ended : HasEnded r es
+    has_ended = record {
+      answers = heard.answers;
+      wave = heard.wave;
+      tally = tally_of n turns;
+      told = heard.told;
+      within = heard.within;
+      round = heard.round;
+      tells = heard.tells;
+      ended = ending;
+      last = subst (λ own. AllByRecursion (λ e. FeedsNothing e.event) (drop (heard.answers.lengths heard.wave 0) own)) (sym (j.parts 0 (omega (arith, some))))
+          (none_behind 0 (heard.answers.lengths heard.wave 0) (ms 0).entries
+          (subst (AllByRecursion (λ i. i < heard.answers.lengths heard.wave 0)) j.console.asked.asked.asked.course.lines
+          (before_two r (ms 0).entries turns (heard.answers.lengths (suc heard.wave) 0) (heard.answers.lengths heard.wave 0) heard.before heard.own j.console.asked.asked.asked.course.own)));
+    }
+
+    pub quiet : IsQuiet r (replayed r es)
+    quiet = ended_quiet r es (judged n p some few).grammar joined has_ended
+
+    own_prints : prints_of (ms 0).entries ≡ prints_of es
+    own_prints = ap prints_of (sym (j.parts 0 (omega (arith, some)))) ∙ sym (legal_prints r (judged n p some few).grammar (judged n p some few).laws es legal)
+
+    own_lines : (line : List ℕ) → lines_fed (ms 0).entries ≡ line ∷ [] → lines_in (part 0 es) ≡ line ∷ []
+    own_lines line fed = ap lines_in (j.parts 0 (omega (arith, some))) ∙ (lines_same (ms 0).entries ∙ fed)
+
+    pub computed : (problem : Problems.Problem) → IsProblem problem → count_events is_refused_count es ≡ 0 → lines_fed (ms 0).entries ≡ problem_line problem ∷ []
+        → prints_of (ms 0).entries ≡ problem_texts problem
+    computed (Number question) ranges none fed =
+        own_prints ∙ number_printed r es (judged n p some few) joined has_ended (calm none) question.number question.threshold ranges (own_lines _ fed)
+    computed (Ring shape) ranges none fed =
+        own_prints ∙ ring_printed r es (judged n p some few) joined has_ended (calm none) shape.points shape.parts shape.steps ranges (own_lines _ fed)
