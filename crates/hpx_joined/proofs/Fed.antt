@@ -1,17 +1,18 @@
 -- A journal that feeds one line, wherever it stands, and is quiet at its end, is a block of the plain pool.
-use Rattle.std.specs.List.{sum_by, AllByRecursion, filter}
-use Rattle.std.proofs.Common.{ℕ, Bool, true, false, suc, zero, List, [], ◌∷◌, ◌++◌, ◌≡◌, ◌≢◌, ◌≤◌, ◌<◌, refl, sym, ap, ◌∙◌, subst, arith, inl, inr, append-nil}
+use Rattle.std.specs.List.{sum_by}
+use Rattle.std.proofs.Common.{ℕ, true, false, suc, List, [], ◌∷◌, ◌++◌, ◌≡◌, ◌≢◌, ◌≤◌, refl, sym, ap, ◌∙◌, subst, arith, inl, inr, append-nil}
 use Rattle.std.proofs.lemmas.List.Sums.{sum_by-cons}
 use Rattle.std.proofs.lemmas.Bool.{cases_eq, eq-eqb, ne_eqb}
-use Rattle.hpx_journal.specs.Bags.{total}
 use Rattle.hpx_journal.specs.Data.{Message}
-use Rattle.hpx_journal.specs.Entries.{Event, Line, Done, Landed, Entry, Rules}
-use Rattle.hpx_journal.specs.Roots.{roots}
+use Rattle.hpx_journal.specs.Entries.{Rules}
+use Rattle.hpx_journal.specs.declared.entry.Entry.{Entry}
+use Rattle.hpx_journal.specs.declared.entry.Event.{Event}
+use Rattle.hpx_journal.specs.declared.entry.Event.TheVariants.{Line, Done, Landed}
 use Rattle.hpx_journal.specs.Rows.{Allowed, Row}
-use Rattle.hpx_journal.specs.Whole.{Space, start, step, replayed, IsLegal, IsLegalFrom, IsQuiet, part}
+use Rattle.hpx_journal.specs.Whole.{Space, step, replayed, IsLegal, IsLegalFrom, IsQuiet, part}
 use Rattle.hpx_journal.specs.declared.local.Local.{Local}
 use Rattle.hpx_journal.specs.Laws.{HasGrammar, KeepsActLaws}
-use Rattle.hpx_journal.specs.Pool.{Pool, fed, Goes, Runs, act_mass, due_mass, frame_mass, mass_at, mass, prints_due, prints_of, Shows, IsBlind, NoneFails, boot_pool}
+use Rattle.hpx_journal.specs.Pool.{Pool, fed, Goes, Runs, act_mass, due_mass, frame_mass, mass_at, mass, prints_due, prints_of, IsBlind, NoneFails, boot_pool}
 use Rattle.hpx_journal.specs.Sessions.{IsSettled, FeedsNothing, Steps, at_rest, IsPlainBlock}
 use Rattle.hpx_journal.proofs.Bags.{total-zero}
 use Rattle.hpx_journal.proofs.Reduced.{boot_shows, legal_reduced}
@@ -70,17 +71,18 @@ no_split (y ∷ before) m behind h = cc
 
 from_line : (r : Rules) (p q : Pool) (line : List ℕ) (es : List Entry) → p.pending ≡ [] → lines_in es ≡ line ∷ [] → Runs r p es q → AreSteps r (fed p line) q
 from_line r p q line [] idle one runs = absurd (let no : [] ≡ line ∷ [] = one in cc)
-from_line r p q line (e ∷ es) idle one runs = by e.event one runs.1
+from_line r p q line (e ∷ es) idle one runs = by e.event one runs.1 (λ idle one rest. from_line r runs.0 q line es idle one rest)
   where
-    by : (x : Event) → line_by x ++ lines_in es ≡ line ∷ [] → Goes r p x runs.0 → AreSteps r (fed p line) q
-    by (Line a bytes) one goes =
+    by : (x : Event) → line_by x ++ lines_in es ≡ line ∷ [] → Goes r p x runs.0
+        → (runs.0.pending ≡ [] → lines_in es ≡ line ∷ [] → Runs r runs.0 es q → AreSteps r (fed runs.0 line) q) → AreSteps r (fed p line) q
+    by (Line a bytes) one goes next =
         let same : bytes ≡ line = cc in
         let none : lines_in es ≡ [] = cc in
         subst (λ v. AreSteps r v q) (goes ∙ ap (fed p) same) (steps_of r runs.0 q es none runs.2)
-    by (Done a true) one goes = absurd goes
-    by (Done a false) one goes = absurd (no_split goes.before goes.message goes.behind (sym idle ∙ goes.pending))
-    by (Landed o) one goes = absurd (no_split goes.before goes.message goes.behind (sym idle ∙ goes.pending))
-    by _ one goes = from_line r p q line es idle one (subst (λ v. Runs r v es q) goes runs.2)
+    by (Done a true) one goes next = absurd goes
+    by (Done a false) one goes next = absurd (no_split goes.before goes.message goes.behind (sym idle ∙ goes.pending))
+    by (Landed o) one goes next = absurd (no_split goes.before goes.message goes.behind (sym idle ∙ goes.pending))
+    by _ one goes next = subst (λ v. AreSteps r (fed v line) q) goes (next (ap (λ v. v.pending) goes ∙ idle) one runs.2)
 
 -- ---- lines are fed at locality 0 alone
 
@@ -105,13 +107,15 @@ pub whole_block : (r : Rules) (line : List ℕ) (es : List Entry) → 1 ≤ r.lo
 whole_block r line es some grammar laws blind legal calm one quiet =
     let x = legal_reduced r [] es (at_rest (boot_pool r)) [] grammar laws blind legal calm (boot_shows r) in
     let settled = quiet_settled r (replayed r es) quiet in
-    let acts = from_line r (at_rest (boot_pool r)) x.pool line es refl one x.runs in
-    (at_rest x.pool, record {
-      ready = refl;
-      steps = acts.number;
-      end = x.pool;
-      acts = acts.steps;
-      idle = none_pending x.pool.pending (sym (x.shows.pending (λ y. 1)) ∙ settled_mass r (replayed r es) settled (λ y. 1));
-      printed = sym (append-nil (prints_of es)) ∙ (ap (λ due. prints_of es ++ prints_due due) (sym (settled.due 0 some)) ∙ x.shows.printed);
-      keeps = refl;
-    })
+    let acts = from_line r (at_rest (boot_pool r)) x.pool line es refl one x.runs in (
+      at_rest x.pool,
+      record {
+        ready = refl;
+        steps = acts.number;
+        end = x.pool;
+        acts = acts.steps;
+        idle = none_pending x.pool.pending (sym (x.shows.pending (λ y. 1)) ∙ settled_mass r (replayed r es) settled (λ y. 1));
+        printed = sym (append-nil (prints_of es)) ∙ (ap (λ due. prints_of es ++ prints_due due) (sym (settled.due 0 some)) ∙ x.shows.printed);
+        keeps = refl;
+      },
+    )

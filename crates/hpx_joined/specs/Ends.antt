@@ -1,7 +1,9 @@
 -- The end of several processes, told by a join of their journals.
 use Rattle.std.specs.Prelude.{ℕ, suc, List, [], ◌∷◌, ◌≡◌, ◌<◌, drop}
 use Rattle.std.specs.List.{AllByRecursion, flat_map}
-use Rattle.hpx_journal.specs.Entries.{Rules, Event, Line}
+use Rattle.hpx_journal.specs.Entries.{Rules}
+use Rattle.hpx_journal.specs.declared.entry.Event.{Event}
+use Rattle.hpx_journal.specs.declared.entry.Event.TheVariants.{Line}
 use Rattle.hpx_journal.specs.declared.entry.Entry.{Entry}
 use Rattle.hpx_journal.specs.Sessions.{FeedsNothing}
 use Rattle.hpx_journal.specs.Whole.{part}
