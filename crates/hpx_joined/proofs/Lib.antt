@@ -1,2 +1,4 @@
 pub mod Fed
 pub mod Computed
+pub mod Asides
+pub mod Spoken
