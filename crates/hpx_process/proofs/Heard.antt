@@ -1,37 +1,58 @@
 -- What the members of a session leave, put together.
 use Rattle.std.specs.Prelude.{suc, zero, ◌+◌, ◌≤◌, ◌<◌, ◌≢◌, ◌⊎◌, IfSome, drop, length}
-use Rattle.std.specs.List.{AllByRecursion}
-use Rattle.std.proofs.Common.{ℕ, Bool, List, [], ◌∷◌, ◌++◌, ◌≡◌, Option, Some, None, refl, sym, ap, ◌∙◌, subst, arith, inl, inr}
+use Rattle.std.specs.List.{concat, flat_map, AllByRecursion}
+use Rattle.std.proofs.Common.{ℕ, Bool, List, [], ◌∷◌, ◌++◌, ◌≡◌, Option, Some, None, refl, sym, ap, ◌∙◌, subst, arith, inl, inr, map, append-nil, append_assoc}
 use Rattle.hpx_value.specs.declared.profile.Profile.{Profile}
 use Rattle.hpx_journal.specs.Entries.{Rules}
 use Rattle.hpx_journal.specs.Foreign.{NodeKeeps}
-use Rattle.hpx_journal.specs.Laws.{RefusesForCause, count_events, is_failed, is_refused_count}
+use Rattle.hpx_journal.specs.Laws.{AreAt, RefusesForCause, count_events, is_failed, is_refused_count}
 use Rattle.hpx_journal.specs.Pool.{NoneFails, prints_of}
-use Rattle.hpx_journal.specs.Sessions.{FeedsNothing}
-use Rattle.hpx_journal.specs.Whole.{IsJoin, IsLegal, IsQuiet, part, replayed}
+use Rattle.hpx_journal.specs.Sessions.{FeedsNothing, entries_of, shown}
+use Rattle.hpx_journal.specs.Whole.{IsClean, IsJoin, IsLegal, IsQuiet, part, replayed, run_local}
 use Rattle.hpx_journal.proofs.Failures.{legal_refusals}
-use Rattle.hpx_journal.proofs.Grow.{part_at}
-use Rattle.hpx_journal.proofs.Start.{joined_legal}
+use Rattle.hpx_journal.proofs.Grow.{legal_part, part_at}
+use Rattle.hpx_journal.proofs.Start.{first, joined_legal, legal_part_clean}
+use Rattle.hpx_parcel.specs.Reading.{parcel_of}
 use Rattle.hpx_part.specs.Data.{Entry, Event, Line}
+use Rattle.hpx_part.specs.Parts.{at_boot}
+use Rattle.hpx_ports.specs.Told.{followed}
 use Rattle.hpx_tables.specs.Tables.{Tables}
-use Rattle.hpx_steps.specs.Rest.{rules_of}
+use Rattle.hpx_steps.specs.Onward.{HaveGone}
+use Rattle.hpx_steps.specs.Rest.{StandsAtRest, rules_of}
+use Rattle.hpx_steps.specs.Sound.{IsSound}
+use Rattle.hpx_steps.specs.Turn.{at_rest}
 use Rattle.hpx_steps.proofs.AtRest.{rest_stands}
 use Rattle.hpx_node.proofs.RowLaws.{refuses_for_cause}
 use Rattle.hpx_ended.specs.Tally.{verdict_of}
 use Rattle.hpx_ended.specs.declared.round.Verdict.TheVariants.{Ended}
+use Rattle.hpx_member.specs.Feeding.{FeedsIdle, IsIdle}
 use Rattle.hpx_member.specs.Leads.{Ends}
 use Rattle.hpx_member.specs.Rounds.{AreOwn, Closes, IsBehind, Last, Nothing, Asking, Ending, Refused, Turn, Fed, Began, Took, Anew, Closed, fed_at, line_at, lines_from, tally_of}
 use Rattle.hpx_member.specs.Seats.{IsNodeAt, IsPart}
 use Rattle.hpx_member.specs.declared.stop.MemberFault.{MemberFault}
+use Rattle.hpx_patient.specs.Lines.{LinesStay}
+use Rattle.hpx_patient.specs.Patient.{IsPatientPart, IsReady}
 use Rattle.hpx_patient.proofs.Prints.{legal_prints}
 use Rattle.hpx_joined.specs.Ends.{HasEnded, line_by, lines_in}
 use Rattle.hpx_joined.proofs.Computed.{ended_quiet, number_printed, ring_printed}
+use Rattle.hpx_joined.proofs.Spoken.{session_said, silent_behind}
+use Rattle.app_console.specs.Console.{prompt}
+use Rattle.app_console.specs.Lines.{lines_of, opening}
+use Rattle.app_console.specs.Plain.{opened}
+use Rattle.app_console.specs.Text.{lines_text, marked}
+use Rattle.app_console.specs.declared.table.Console.TheVariants.{Accumulator as AccumulatorConsole}
 use Rattle.hpx_top.specs.Acts.{act_of}
 use Rattle.hpx_top.specs.Session.{lines_by, lines_fed}
-use Rattle.hpx_top.proofs.ActLemmas.{judged}
+use Rattle.hpx_top.specs.Runs.{Ports}
+use Rattle.hpx_top.specs.Texts.{commands}
+use Rattle.hpx_top.specs.declared.consoles.UserConsole.TheVariants.{Accumulator}
+use Rattle.hpx_top.proofs.ActLemmas.{acting, judged}
 use Rattle.hpx_process.specs.Joined.{AreHeard, AreJoined, problem_texts, waves_at}
-use Rattle.hpx_process.specs.Members.{IsMember, Left}
+use Rattle.hpx_process.specs.Members.{HasSat, Left}
 use Rattle.hpx_process.specs.Memberships.{IsProblem, problem_line}
+use Rattle.hpx_process.specs.Parts.{IsWhole, part_text}
+use Rattle.hpx_process.proofs.Said.{blocks_begin, blocks_entries, blocks_text, clean_front, fed_blocks, feeds_front, line_in, patient, ready_of}
+use Rattle.hpx_process.proofs.Stays.{lines_stay}
 use Rattle.hpx_process.specs.declared.problem.Problem as Problems
 use Rattle.hpx_process.specs.declared.problem.Problem.TheVariants.{Number, Ring}
 
@@ -117,11 +138,15 @@ module _ (n : ℕ) (p : Profile) (settles : Bool) (ms : ℕ → Left) (es : List
   legal : IsLegal r es
   legal = joined_legal r (judged n p some few).grammar es joined
 
+  stands_at : (k : ℕ) (t : Tables) (entries : List Entry) → IsNodeAt act_of k n p t entries → StandsAtRest r t entries
+  stands_at k t entries node =
+      rest_stands t r entries (subst (λ q. IsSound (rules_of act_of n q) (at_rest t) entries) node.profile
+      (subst (λ m. IsSound (rules_of act_of m t.profile) (at_rest t) entries) node.localities node.stands))
+
   by_node : (k : ℕ) (t : Option Tables) (entries : List Entry) → IsPart r k entries → IfSome t (λ t. IsNodeAt act_of k n p t entries) → (t ≡ None → entries ≡ []) → RefusesForCause r entries
   by_node k None entries at node unbooted = subst (RefusesForCause r) (sym (unbooted refl)) (record { few = omega arith })
   by_node k (Some t) entries at node unbooted =
-      let stands = rest_stands t r entries (subst (λ q. _) node.profile (subst (λ m. _) node.localities node.stands)) in
-      subst (RefusesForCause r) (ap (λ i. part i entries) node.here ∙ part_at k entries at.own) (refuses_for_cause r t entries stands.stands)
+      subst (RefusesForCause r) (ap (λ i. part i entries) node.here ∙ part_at k entries at.own) (refuses_for_cause r t entries (stands_at k t entries node).stands)
 
   cause_at : (k : ℕ) → k < n → RefusesForCause r (ms k).entries
   cause_at zero h = by_node zero (ms zero).node (ms zero).entries (journal_at zero h) j.console.member.node (λ none. (j.console.member.unbooted none).1)
@@ -132,6 +157,81 @@ module _ (n : ℕ) (p : Profile) (settles : Bool) (ms : ℕ → Left) (es : List
   -- where no Count is refused no action fails
   calm : count_events is_refused_count es ≡ 0 → NoneFails es
   calm none = omega (arith, legal_refusals r es legal (λ k h. subst (RefusesForCause r) (sym (j.parts k h)) (cause_at k h)), none)
+
+  -- ---- the session
+
+  gone_from : (t : Option Tables) (entries : List Entry) → IsPart r 0 entries → IfSome t (λ t. IsNodeAt act_of 0 n p t entries) → (t ≡ None → entries ≡ []) → HaveGone r 0 entries
+  gone_from None entries at node unbooted = λ before after e to bytes q act is. absurd (nowhere before e after (sym (unbooted refl) ∙ is))
+    where
+      nowhere : (before : List Entry) (e : Entry) (after : List Entry) → [] ≡ before ++ e ∷ after → ⊥
+      nowhere [] e after h = cc
+      nowhere (x ∷ before) e after h = cc
+  gone_from (Some t) entries at node unbooted =
+      let stands = stands_at 0 t entries node in
+      subst (HaveGone r 0) (part_at 0 entries at.own) (subst (λ k. HaveGone r k (part k entries)) node.here stands.homes.gone)
+
+  stay : LinesStay r es
+  stay =
+      let own = j.parts 0 (omega (arith, some)) in
+      lines_stay r (part 0 es) (subst (AreAt 0) (sym own) (journal_at 0 (omega (arith, some))).own)
+      (legal_part r (first r) es legal 0) (legal_part_clean r es legal (judged n p some few).grammar 0 (omega (arith, some)))
+      (subst (HaveGone r 0) (sym own) (gone_from (ms 0).node (ms 0).entries (journal_at 0 (omega (arith, some))) j.console.member.node (λ none. (j.console.member.unbooted none).1)))
+      [] (part 0 es) refl
+
+  clean_here : IsClean r (at_boot r 0) (ms 0).entries
+  clean_here = subst (IsClean r (at_boot r 0)) (j.parts 0 (omega (arith, some))) (legal_part_clean r es legal (judged n p some few).grammar 0 (omega (arith, some)))
+
+  module _ (x z : Ports) (well : (ms 0).status ≡ 0) (none : count_events is_refused_count es ≡ 0) (did : HasSat r (ms 0) x z) (input : List ℕ) (left : x.left ≡ Some input)
+      (short : length (lines_of input) < 4000000000) where
+    w : IsWhole r input (ms 0).entries x.text z.text
+    w = did.whole well input left
+
+    blocks : List (List Entry)
+    blocks = w.first ∷ fed_blocks w.parts
+
+    front_is : entries_of blocks ≡ w.first ++ flat_map (λ q. q.entries) w.parts
+    front_is = ap (λ l. w.first ++ l) (sym (blocks_entries w.parts w.each))
+
+    own_is : (ms 0).entries ≡ entries_of blocks ++ w.later
+    own_is = w.is ∙ (sym (append_assoc w.first (flat_map (λ q. q.entries) w.parts) w.later) ∙ ap (λ l. l ++ w.later) (sym front_is))
+
+    feeds_here : FeedsIdle r (at_boot r 0) (ms 0).entries
+    feeds_here = elim did.served.serves [
+      | inl h ↦ h.feeds
+      | inr h ↦ (h.2).feeds
+    ]
+
+    ready_behind : IsReady (run_local r (at_boot r 0) (entries_of blocks))
+    ready_behind = ready_of (run_local r (at_boot r 0) (entries_of blocks)) (subst (λ l. IsIdle (run_local r (at_boot r 0) l)) (sym front_is)
+        (w.idle (subst (IsClean r (at_boot r 0)) front_is (clean_front r (at_boot r 0) (entries_of blocks) w.later (subst (IsClean r (at_boot r 0)) own_is clean_here)))))
+
+    lines : List (List ℕ)
+    lines = map line_in w.parts
+
+    few_lines : length lines < 4000000000
+    few_lines = subst (λ l. length l < 4000000000) (sym w.lines) short
+
+    patient_part : IsPatientPart r (at_boot r 0) (opening ∷ marked 97 lines) blocks
+    patient_part = patient r (at_boot r 0) (opening ∷ marked 97 lines) blocks (w.opened, blocks_begin w.parts w.each)
+        (feeds_front r (at_boot r 0) (entries_of blocks) w.later (subst (FeedsIdle r (at_boot r 0)) own_is feeds_here))
+        (clean_front r (at_boot r 0) (entries_of blocks) w.later (subst (IsClean r (at_boot r 0)) own_is clean_here)) ready_behind
+
+    part_is : part 0 es ≡ entries_of blocks ++ w.later
+    part_is = j.parts 0 (omega (arith, some)) ∙ own_is
+
+    silent : concat (prints_of w.later) ≡ []
+    silent = silent_behind acting n p.credit_log p.credit_limit parcel_of some few es (judged n p some few).grammar joined (calm none) stay lines few_lines blocks w.later part_is patient_part w.unfed
+        (ready_of (run_local r (at_boot r 0) (part 0 es)) (subst (λ l. IsIdle (run_local r (at_boot r 0) l)) (sym (j.parts 0 (omega (arith, some)))) (j.console.rest well clean_here)))
+
+    pub said : z.text ≡ followed x.text (commands Accumulator ++ (lines_text AccumulatorConsole n (opened n) (lines_of input) ++ prompt))
+    said =
+        let texts = session_said acting n p.credit_log p.credit_limit parcel_of some few es (judged n p some few).grammar joined (calm none) stay lines few_lines blocks w.later part_is patient_part in
+        w.text ∙ ap (λ t. followed x.text (commands Accumulator ++ t))
+        (ap (λ t. t ++ (flat_map part_text w.parts ++ (prompt ++ concat (prints_of w.later)))) texts.0
+        ∙ (ap (λ t. t ++ (prompt ++ concat (prints_of w.later))) (blocks_text w.parts w.each ∙ (texts.1 ∙ ap (lines_text AccumulatorConsole n (opened n)) w.lines))
+        ∙ ap (λ t. lines_text AccumulatorConsole n (opened n) (lines_of input) ++ t) (ap (λ t. prompt ++ t) silent ∙ append-nil prompt)))
+
+  -- ---- what is computed
 
   module _ (well : (ms 0).status ≡ 0) (heard : AreHeard r es j.console.asked.asked.turns) where
     abbrev turns : List Turn

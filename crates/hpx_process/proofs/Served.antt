@@ -68,10 +68,10 @@ served_done r es W B s = by s.serves
 -- ---- at a desk
 
 pub sat_whole : (r : Rules) (status : ℕ) (es : List Entry) (input : List ℕ) (x z : Sitting) → x.sheet ≡ Blank → x.reading ≡ record { pending = []; read = 0; ended = false } → x.left ≡ Some input
-    → status ≡ 0 → HasServed r status es (HasTalked x z) (HasBroken x z) → IsWhole input es x.text z.text
+    → status ≡ 0 → HasServed r status es (HasTalked x z) (HasBroken x z) → IsWhole r input es x.text z.text
 sat_whole r status es input x z blank fresh left well served =
     let s = served_done r es (HasTalked x z) (HasBroken x z) (subst (λ n. HasServed r n es (HasTalked x z) (HasBroken x z)) well served) in
-    whole input s.blocks s.rest es x z blank fresh left s.is s.begin s.at s.talk
+    whole r input s.blocks s.rest es x z blank fresh left s.is s.idle s.begin s.at s.talk
 
 pub sat_reads : (r : Rules) (status : ℕ) (es : List Entry) (x z : Sitting) → HasServed r status es (HasTalked x z) (HasBroken x z) → Reads x z
 sat_reads r status es x z served = served_fact r status es (HasTalked x z) (HasBroken x z) (Reads x z) (λ talk h. h.reads) (λ fault talk tried h. h.reads) served

@@ -5,6 +5,7 @@ use Rattle.std.specs.Option.{option_map}
 use Rattle.std.proofs.Common.{ℕ, Bool, true, false, List, [], ◌∷◌, ◌++◌, ◌≡◌, Option, Some, None, map, refl, sym, ap, ◌∙◌, subst, append-nil, append_assoc}
 use Rattle.std.proofs.lemmas.List.{map-append}
 use Rattle.std.proofs.lemmas.List.Concat.{flat_map-append}
+use Rattle.hpx_journal.specs.Entries.{Rules}
 use Rattle.hpx_journal.specs.Pool.{prints_of}
 use Rattle.hpx_journal.specs.Sessions.{BeginsWith, FeedsNothing}
 use Rattle.hpx_part.specs.Data.{Entry}
@@ -12,7 +13,7 @@ use Rattle.hpx_ports.specs.Told.{followed, preceded}
 use Rattle.app_console.specs.Console.{prompt}
 use Rattle.app_console.specs.Lines.{before_quit, is_long, is_newline, is_quit, lines_in, lines_of, opening}
 use Rattle.app_console.specs.Text.{too_long}
-use Rattle.hpx_member.specs.Serves.{Block, IsBlock, entries_in, talk_in}
+use Rattle.hpx_member.specs.Serves.{IsIdleBehind, Block, IsBlock, entries_in, talk_in}
 use Rattle.hpx_member.specs.Talks.{Talk, Handed, Over, Shown}
 use Rattle.hpx_top.specs.Session.{HandsOut}
 use Rattle.hpx_top.specs.Texts.{commands}
@@ -205,10 +206,10 @@ typed_all input all others lines is h last =
     sym (append-nil lines) ∙ (ap (λ l. lines ++ l) (sym none) ∙ (sym (before_quit_append lines rest.0 h.goes_on) ∙ ap before_quit (sym rest.2)))
 
 
-pub whole : (input : List ℕ) (blocks : List Block) (rest es : List Entry) (x z : Sitting) → x.sheet ≡ Blank → x.reading ≡ record { pending = []; read = 0; ended = false } → x.left ≡ Some input
-    → es ≡ entries_in blocks ++ rest → AllByRecursion IsBlock blocks → AllByRecursion (λ e. FeedsNothing e.event) rest
-    → HasTalked x z (talk_in blocks ++ (Over ∷ (Shown rest ∷ []))) → IsWhole input es x.text z.text
-whole input blocks rest es x z blank fresh left is all unfed talked =
+pub whole : (r : Rules) (input : List ℕ) (blocks : List Block) (rest es : List Entry) (x z : Sitting) → x.sheet ≡ Blank → x.reading ≡ record { pending = []; read = 0; ended = false } → x.left ≡ Some input
+    → es ≡ entries_in blocks ++ rest → IsIdleBehind r (entries_in blocks) → AllByRecursion IsBlock blocks → AllByRecursion (λ e. FeedsNothing e.event) rest
+    → HasTalked x z (talk_in blocks ++ (Over ∷ (Shown rest ∷ []))) → IsWhole r input es x.text z.text
+whole r input blocks rest es x z blank fresh left is idle all unfed talked =
     let b = begun blocks rest talked.deeds z.sheet talked.said (subst (λ s. TurnsAll s talked.deeds z.sheet) blank talked.turns) all in
     let p = b.parts in
     let input_is : lines_at x ≡ Some (lines_in (slice_split is_newline input)) = rw (fresh, left) in refl in
@@ -219,6 +220,7 @@ whole input blocks rest es x z blank fresh left is all unfed talked =
       later = rest;
       lines = p.lines ∙ (ap (λ d. flat_map lines_by d) (sym b.is) ∙ typed_all input (lines_at x) talked.others (flat_map lines_by talked.deeds) input_is talked.typed others);
       is = is ∙ (ap (λ l. l ++ rest) b.entries ∙ (append_assoc b.first (entries_in b.later) rest ∙ ap (λ l. b.first ++ (l ++ rest)) (sym p.entries)));
+      idle = subst (IsIdleBehind r) (b.entries ∙ ap (λ l. b.first ++ l) (sym p.entries)) idle;
       opened = b.opened;
       each = p.each;
       unfed = unfed;

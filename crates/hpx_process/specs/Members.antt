@@ -98,7 +98,7 @@ pub record HasSat (r : Rules) (m : Left) (x z : Ports) : Type 0 where
       (HasTalked (sitting Blank (record { pending = []; read = 0; ended = false }) x.left x.taken x.text) (sitting sheet reading z.left z.taken z.text))
       (HasBroken (sitting Blank (record { pending = []; read = 0; ended = false }) x.left x.taken x.text) (sitting sheet reading z.left z.taken z.text))
   pub reads : (input : List ℕ) → x.left ≡ Some input → IsReadFrom input z.left x.taken z.taken
-  pub whole : m.status ≡ 0 → (input : List ℕ) → x.left ≡ Some input → IsWhole input m.entries x.text z.text
+  pub whole : m.status ≡ 0 → (input : List ℕ) → x.left ≡ Some input → IsWhole r input m.entries x.text z.text
 
 -- It was given a slip with this line: that was fed, or nothing, and the prints or a front of them were written, where it ended well all. It read
 -- nothing.
