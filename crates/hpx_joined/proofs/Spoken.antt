@@ -9,16 +9,15 @@ use Rattle.std.proofs.lemmas.List.Folds.{concat-append}
 use Rattle.hpx_parcel.specs.declared.parcel.Parcel.{Parcel}
 use Rattle.hpx_journal.specs.Entries.{Rules}
 use Rattle.hpx_journal.specs.declared.entry.Entry.{Entry}
-use Rattle.hpx_journal.specs.declared.local.Local.{Local}
 use Rattle.hpx_journal.specs.Laws.{HasGrammar}
-use Rattle.hpx_journal.specs.Local.{after, boot as boot_local}
+use Rattle.hpx_journal.specs.Local.{boot as boot_local}
 use Rattle.hpx_journal.specs.Pool.{NoneFails, Pool, prints_by, prints_of}
 use Rattle.hpx_journal.specs.Roots.{roots}
 use Rattle.hpx_journal.specs.Sessions.{BeginsWith, FeedsNothing, IsPlainSession, entries_of, shown}
 use Rattle.hpx_journal.specs.Whole.{IsJoin, IsLegal, part, run_local}
 use Rattle.hpx_journal.proofs.Start.{joined_legal}
 use Rattle.hpx_patient.specs.Lines.{LinesStay}
-use Rattle.hpx_patient.specs.Patient.{IsPatientPart, IsPatientPlainSession, IsReady}
+use Rattle.hpx_patient.specs.Patient.{AreBlocks, IsPatientPart, IsPatientPlainSession, IsReady}
 use Rattle.hpx_patient.proofs.Cuts.{console_plain}
 use Rattle.app_console.specs.Judging.{Acting, judging}
 use Rattle.app_console.specs.Lines.{first_of, is_long, opening, others_of}
@@ -52,22 +51,13 @@ entries_ending : (b : List Entry) (bs : List (List Entry)) (last : List Entry) �
 entries_ending b [] last = append-nil (b ++ last) ∙ ap (λ xs. xs ++ last) (sym (append-nil b))
 entries_ending b (c ∷ bs) last = ap (λ xs. b ++ xs) (entries_ending c bs last) ∙ sym (append_assoc b (entries_of (c ∷ bs)) last)
 
-run_more : (r : Rules) (s : Local) (xs ys : List Entry) → run_local r s (xs ++ ys) ≡ run_local r (run_local r s xs) ys
-run_more r s [] ys = refl
-run_more r s (x ∷ xs) ys = run_more r (after r s x.event) xs ys
-
-part_ending : (r : Rules) (s : Local) (lines : List (List ℕ)) (b : List Entry) (bs : List (List Entry)) (last : List Entry) → IsPatientPart r s lines (b ∷ bs)
-    → AllByRecursion (λ e. FeedsNothing e.event) last → IsReady (run_local r s (entries_of (b ∷ bs) ++ last)) → IsPatientPart r s lines (ending (b ∷ bs) last)
-part_ending r s [] b bs last h g ready = absurd h
-part_ending r s (line ∷ []) b [] last h g ready =
-    (begins_more line b last h.0 g, subst (λ xs. IsReady (run_local r s (xs ++ last))) (append-nil b) ready, tt)
-part_ending r s (line ∷ l ∷ lines) b [] last h g ready = absurd h.2
-part_ending r s (line ∷ lines) b (c ∷ bs) last h g ready = (
-  h.0,
-  h.1,
-  part_ending r (run_local r s b) lines c bs last h.2 g
-      (subst IsReady (ap (run_local r s) (append_assoc b (entries_of (c ∷ bs)) last) ∙ run_more r s b (entries_of (c ∷ bs) ++ last)) ready),
-)
+blocks_ending : (lines : List (List ℕ)) (b : List Entry) (bs : List (List Entry)) (last : List Entry) → AreBlocks lines (b ∷ bs)
+    → AllByRecursion (λ e. FeedsNothing e.event) last → AreBlocks lines (ending (b ∷ bs) last)
+blocks_ending [] b bs last h g = absurd h
+blocks_ending (line ∷ []) b [] last h g = (begins_more line b last h.0 g, tt)
+blocks_ending (line ∷ []) b (c ∷ bs) last h g = absurd h.1
+blocks_ending (line ∷ l ∷ lines) b [] last h g = absurd h.1
+blocks_ending (line ∷ l ∷ lines) b (c ∷ bs) last h g = (h.0, blocks_ending (l ∷ lines) c bs last h.1 g)
 
 prints_append : (xs ys : List Entry) → concat (prints_of (xs ++ ys)) ≡ concat (prints_of xs) ++ concat (prints_of ys)
 prints_append xs ys = ap concat (flat_map-append (λ e. prints_by e.event) xs ys) ∙ concat-append (prints_of xs) (prints_of ys)
@@ -148,24 +138,26 @@ module _ (acts : Acting) (n log limit : ℕ) (parcel_of : List ℕ → Option Pa
     legal : IsLegal r es
     legal = joined_legal r grammar es join
 
-    texts_of_blocks : (blocks : List (List Entry)) (last : List Entry) → part 0 es ≡ entries_of blocks ++ last
-        → IsPatientPart r (boot_local (roots n 0) 0) (opening ∷ marked 97 lines) blocks
+    texts_of_blocks : (blocks : List (List Entry)) (last : List Entry) → IsPatientPart r (part 0 es) (opening ∷ marked 97 lines) blocks last
         → IsPlainSession r (boot acts n log limit parcel_of some) (opening ∷ marked 97 lines) (shown blocks) × (map concat (shown blocks) ≡ [] ∷ each (opened n) lines)
-    texts_of_blocks blocks last is own =
+    texts_of_blocks blocks last own =
         opened_said lines (shown blocks) (omega (arith, short))
-        (console_plain r grammar (acts_lawful acts n log limit parcel_of some few) (acts_blind acts n log limit parcel_of some few) es (opening ∷ marked 97 lines) blocks last legal calm stay is own)
+        (console_plain r grammar (acts_lawful acts n log limit parcel_of some few) (acts_blind acts n log limit parcel_of some few) es (opening ∷ marked 97 lines) blocks last legal calm stay own)
 
-    pub session_said : (blocks : List (List Entry)) (last : List Entry) → part 0 es ≡ entries_of blocks ++ last
-        → IsPatientPart r (boot_local (roots n 0) 0) (opening ∷ marked 97 lines) blocks
+    pub session_said : (blocks : List (List Entry)) (last : List Entry) → IsPatientPart r (part 0 es) (opening ∷ marked 97 lines) blocks last
         → (first_of (shown blocks) ≡ []) × (written lines (others_of (shown blocks)) ≡ lines_text AccumulatorConsole n (opened n) lines)
-    session_said blocks last is own =
-        whole_text acts n log limit parcel_of some few AccumulatorConsole 97 refl lines (shown blocks) (omega (arith, short)) (texts_of_blocks blocks last is own).0
+    session_said blocks last own =
+        whole_text acts n log limit parcel_of some few AccumulatorConsole 97 refl lines (shown blocks) (omega (arith, short)) (texts_of_blocks blocks last own).0
 
-    pub silent_behind : (blocks : List (List Entry)) (last : List Entry) → part 0 es ≡ entries_of blocks ++ last
-        → IsPatientPart r (boot_local (roots n 0) 0) (opening ∷ marked 97 lines) blocks → AllByRecursion (λ e. FeedsNothing e.event) last
-        → IsReady (run_local r (boot_local (roots n 0) 0) (part 0 es)) → concat (prints_of last) ≡ []
-    silent_behind [] last is own unfed ready = absurd own
-    silent_behind (b ∷ bs) last is own unfed ready =
-        let more = part_ending r (boot_local (roots n 0) 0) (opening ∷ marked 97 lines) b bs last own unfed (subst (λ xs. IsReady (run_local r (boot_local (roots n 0) 0) xs)) is ready) in
-        let whole : part 0 es ≡ entries_of (ending (b ∷ bs) last) ++ [] = is ∙ (sym (entries_ending b bs last) ∙ sym (append-nil _)) in
-        silent_ending b bs last ((texts_of_blocks (ending (b ∷ bs) last) [] whole more).1 ∙ sym (texts_of_blocks (b ∷ bs) last is own).1)
+    pub silent_behind : (blocks : List (List Entry)) (last : List Entry) → IsPatientPart r (part 0 es) (opening ∷ marked 97 lines) blocks last
+        → AllByRecursion (λ e. FeedsNothing e.event) last → IsReady (run_local r (boot_local (roots n 0) 0) (part 0 es)) → concat (prints_of last) ≡ []
+    silent_behind [] last own unfed ready = absurd own.begin
+    silent_behind (b ∷ bs) last own unfed ready =
+        let same : part 0 es ≡ entries_of (ending (b ∷ bs) last) = own.is ∙ sym (entries_ending b bs last) in
+        let more : IsPatientPart r (part 0 es) (opening ∷ marked 97 lines) (ending (b ∷ bs) last) [] = record {
+          begin = blocks_ending (opening ∷ marked 97 lines) b bs last own.begin unfed;
+          is = same ∙ sym (append-nil (entries_of (ending (b ∷ bs) last)));
+          feeds = own.feeds;
+          ready = subst (λ xs. IsReady (run_local r (boot_local (roots n 0) 0) xs)) same ready;
+        } in
+        silent_ending b bs last ((texts_of_blocks (ending (b ∷ bs) last) [] more).1 ∙ sym (texts_of_blocks (b ∷ bs) last own).1)

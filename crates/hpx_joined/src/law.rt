@@ -1,5 +1,5 @@
 //! What a console of several processes prints: the contracts are the laws.
-ghost use Rattle.std.specs.Prelude.{ℕ, List, [], ◌∷◌, ◌++◌, ◌≡◌, ◌≤◌, ◌<◌, Option, length};
+ghost use Rattle.std.specs.Prelude.{ℕ, List, [], ◌∷◌, ◌≡◌, ◌≤◌, ◌<◌, Option, length};
 ghost use Rattle.std.specs.List.{AllByRecursion, concat};
 ghost use Rattle.hpx_journal.specs.Entries.{Rules};
 ghost use Rattle.hpx_journal.specs.Laws.{HasGrammar};
@@ -21,7 +21,7 @@ ghost use Rattle.hpx_patient.specs.Patient.{IsPatientPart, IsReady};
 ghost use Rattle.hpx_journal.specs.Data.{Parcel};
 ghost use Rattle.hpx_journal.specs.Local.{boot};
 ghost use Rattle.hpx_journal.specs.Roots.{roots};
-ghost use Rattle.hpx_journal.specs.Sessions.{FeedsNothing, entries_of, shown};
+ghost use Rattle.hpx_journal.specs.Sessions.{FeedsNothing, shown};
 
 /// Where the last round of the console has ended, nothing is under way anywhere.
 pub fn end_law()
@@ -43,12 +43,10 @@ pub fn computed_law()
 pub fn session_law()
     ensures said { (acts : Acting) (n log limit : ℕ) (parcel_of : List ℕ → Option Parcel) (es : List Entry) (lines : List (List ℕ)) (blocks : List (List Entry)) (last : List Entry)
         → 1 ≤ n → n ≤ 64 → length lines < 4000000000 → HasGrammar (judging acts n log limit parcel_of) → IsJoin (judging acts n log limit parcel_of) es → NoneFails es
-        → LinesStay (judging acts n log limit parcel_of) es → part 0 es ≡ entries_of blocks ++ last
-        → IsPatientPart (judging acts n log limit parcel_of) (boot (roots n 0) 0) (opening ∷ marked 97 lines) blocks
+        → LinesStay (judging acts n log limit parcel_of) es → IsPatientPart (judging acts n log limit parcel_of) (part 0 es) (opening ∷ marked 97 lines) blocks last
         → (first_of (shown blocks) ≡ []) × (written lines (others_of (shown blocks)) ≡ lines_text AccumulatorConsole n (opened n) lines) }
     ensures silent { (acts : Acting) (n log limit : ℕ) (parcel_of : List ℕ → Option Parcel) (es : List Entry) (lines : List (List ℕ)) (blocks : List (List Entry)) (last : List Entry)
         → 1 ≤ n → n ≤ 64 → length lines < 4000000000 → HasGrammar (judging acts n log limit parcel_of) → IsJoin (judging acts n log limit parcel_of) es → NoneFails es
-        → LinesStay (judging acts n log limit parcel_of) es → part 0 es ≡ entries_of blocks ++ last
-        → IsPatientPart (judging acts n log limit parcel_of) (boot (roots n 0) 0) (opening ∷ marked 97 lines) blocks → AllByRecursion (λ e. FeedsNothing e.event) last
+        → LinesStay (judging acts n log limit parcel_of) es → IsPatientPart (judging acts n log limit parcel_of) (part 0 es) (opening ∷ marked 97 lines) blocks last → AllByRecursion (λ e. FeedsNothing e.event) last
         → IsReady (run_local (judging acts n log limit parcel_of) (boot (roots n 0) 0) (part 0 es)) → concat (prints_of last) ≡ [] }
 {}

@@ -5,13 +5,13 @@ use Rattle.std.proofs.Common.{ℕ, Bool, List, [], ◌∷◌, ◌++◌, ◌≡�
 use Rattle.hpx_value.specs.declared.profile.Profile.{Profile}
 use Rattle.hpx_journal.specs.Entries.{Rules}
 use Rattle.hpx_journal.specs.Foreign.{NodeKeeps}
-use Rattle.hpx_journal.specs.Laws.{AreAt, RefusesForCause, count_events, is_failed, is_refused_count}
+use Rattle.hpx_journal.specs.Laws.{RefusesForCause, count_events, is_failed, is_refused_count}
 use Rattle.hpx_journal.specs.Pool.{NoneFails, prints_of}
 use Rattle.hpx_journal.specs.Sessions.{FeedsNothing, entries_of, shown}
 use Rattle.hpx_journal.specs.Whole.{IsClean, IsJoin, IsLegal, IsQuiet, part, replayed, run_local}
 use Rattle.hpx_journal.proofs.Failures.{legal_refusals}
-use Rattle.hpx_journal.proofs.Grow.{legal_part, part_at}
-use Rattle.hpx_journal.proofs.Start.{first, joined_legal, legal_part_clean}
+use Rattle.hpx_journal.proofs.Grow.{part_at}
+use Rattle.hpx_journal.proofs.Start.{joined_legal, legal_part_clean}
 use Rattle.hpx_parcel.specs.Reading.{parcel_of}
 use Rattle.hpx_part.specs.Data.{Entry, Event, Line}
 use Rattle.hpx_part.specs.Parts.{at_boot}
@@ -51,8 +51,8 @@ use Rattle.hpx_process.specs.Joined.{AreHeard, AreJoined, problem_texts, waves_a
 use Rattle.hpx_process.specs.Members.{HasSat, Left}
 use Rattle.hpx_process.specs.Memberships.{IsProblem, problem_line}
 use Rattle.hpx_process.specs.Parts.{IsWhole, part_text}
-use Rattle.hpx_process.proofs.Said.{blocks_begin, blocks_entries, blocks_text, clean_front, fed_blocks, feeds_front, line_in, patient, ready_of}
-use Rattle.hpx_process.proofs.Stays.{lines_stay}
+use Rattle.hpx_process.proofs.Said.{blocks_begin, blocks_entries, blocks_text, clean_front, fed_blocks, feeds_ready, line_in, ready_of}
+use Rattle.hpx_process.proofs.Unsent.{lines_stay}
 use Rattle.hpx_process.specs.declared.problem.Problem as Problems
 use Rattle.hpx_process.specs.declared.problem.Problem.TheVariants.{Number, Ring}
 
@@ -171,12 +171,9 @@ module _ (n : ℕ) (p : Profile) (settles : Bool) (ms : ℕ → Left) (es : List
       subst (HaveGone r 0) (part_at 0 entries at.own) (subst (λ k. HaveGone r k (part k entries)) node.here stands.homes.gone)
 
   stay : LinesStay r es
-  stay =
-      let own = j.parts 0 (omega (arith, some)) in
-      lines_stay r (part 0 es) (subst (AreAt 0) (sym own) (journal_at 0 (omega (arith, some))).own)
-      (legal_part r (first r) es legal 0) (legal_part_clean r es legal (judged n p some few).grammar 0 (omega (arith, some)))
-      (subst (HaveGone r 0) (sym own) (gone_from (ms 0).node (ms 0).entries (journal_at 0 (omega (arith, some))) j.console.member.node (λ none. (j.console.member.unbooted none).1)))
-      [] (part 0 es) refl
+  stay = lines_stay r es (judged n p some few).grammar (omega (arith, some)) legal
+      (subst (HaveGone r 0) (sym (j.parts 0 (omega (arith, some))))
+      (gone_from (ms 0).node (ms 0).entries (journal_at 0 (omega (arith, some))) j.console.member.node (λ none. (j.console.member.unbooted none).1)))
 
   clean_here : IsClean r (at_boot r 0) (ms 0).entries
   clean_here = subst (IsClean r (at_boot r 0)) (j.parts 0 (omega (arith, some))) (legal_part_clean r es legal (judged n p some few).grammar 0 (omega (arith, some)))
@@ -211,21 +208,21 @@ module _ (n : ℕ) (p : Profile) (settles : Bool) (ms : ℕ → Left) (es : List
     few_lines : length lines < 4000000000
     few_lines = subst (λ l. length l < 4000000000) (sym w.lines) short
 
-    patient_part : IsPatientPart r (at_boot r 0) (opening ∷ marked 97 lines) blocks
-    patient_part = patient r (at_boot r 0) (opening ∷ marked 97 lines) blocks (w.opened, blocks_begin w.parts w.each)
-        (feeds_front r (at_boot r 0) (entries_of blocks) w.later (subst (FeedsIdle r (at_boot r 0)) own_is feeds_here))
-        (clean_front r (at_boot r 0) (entries_of blocks) w.later (subst (IsClean r (at_boot r 0)) own_is clean_here)) ready_behind
-
-    part_is : part 0 es ≡ entries_of blocks ++ w.later
-    part_is = j.parts 0 (omega (arith, some)) ∙ own_is
+    its_part : IsPatientPart r (part 0 es) (opening ∷ marked 97 lines) blocks w.later
+    its_part = subst (λ own. IsPatientPart r own (opening ∷ marked 97 lines) blocks w.later) (sym (j.parts 0 (omega (arith, some)))) (record {
+      begin = (w.opened, blocks_begin w.parts w.each);
+      is = own_is;
+      feeds = feeds_ready r (at_boot r 0) (ms 0).entries feeds_here clean_here;
+      ready = ready_behind;
+    })
 
     silent : concat (prints_of w.later) ≡ []
-    silent = silent_behind acting n p.credit_log p.credit_limit parcel_of some few es (judged n p some few).grammar joined (calm none) stay lines few_lines blocks w.later part_is patient_part w.unfed
+    silent = silent_behind acting n p.credit_log p.credit_limit parcel_of some few es (judged n p some few).grammar joined (calm none) stay lines few_lines blocks w.later its_part w.unfed
         (ready_of (run_local r (at_boot r 0) (part 0 es)) (subst (λ l. IsIdle (run_local r (at_boot r 0) l)) (sym (j.parts 0 (omega (arith, some)))) (j.console.rest well clean_here)))
 
     pub said : z.text ≡ followed x.text (commands Accumulator ++ (lines_text AccumulatorConsole n (opened n) (lines_of input) ++ prompt))
     said =
-        let texts = session_said acting n p.credit_log p.credit_limit parcel_of some few es (judged n p some few).grammar joined (calm none) stay lines few_lines blocks w.later part_is patient_part in
+        let texts = session_said acting n p.credit_log p.credit_limit parcel_of some few es (judged n p some few).grammar joined (calm none) stay lines few_lines blocks w.later its_part in
         w.text ∙ ap (λ t. followed x.text (commands Accumulator ++ t))
         (ap (λ t. t ++ (flat_map part_text w.parts ++ (prompt ++ concat (prints_of w.later)))) texts.0
         ∙ (ap (λ t. t ++ (prompt ++ concat (prints_of w.later))) (blocks_text w.parts w.each ∙ (texts.1 ∙ ap (lines_text AccumulatorConsole n (opened n)) w.lines))

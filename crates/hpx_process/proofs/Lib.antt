@@ -6,5 +6,5 @@ pub mod Served
 pub mod Words
 pub mod Short
 pub mod Heard
-pub mod Stays
+pub mod Unsent
 pub mod Said
