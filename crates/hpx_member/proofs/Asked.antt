@@ -1,6 +1,5 @@
 -- The turns of a console, as its journal and its link grow.
 use Rattle.std.proofs.Common.{true, false, ℕ, zero, suc, Bool, List, [], ◌∷◌, ◌++◌, ◌≡◌, ◌<◌, ◌≤◌, ◌+◌, refl, sym, ap, ◌∙◌, subst, arith, inl, inr, length, append-nil, append_assoc, Option, Some, None}
-use Rattle.std.specs.Prelude.{◌⊎◌}
 use Rattle.std.specs.List.{AllByRecursion}
 use Rattle.std.proofs.lemmas.List.{take-append-le, length-append, length-replicate, length-set}
 use Rattle.std.proofs.Math.Seq.{take-append_seam}
@@ -19,8 +18,10 @@ use Rattle.hpx_ports.specs.declared.link.Post.{Post}
 use Rattle.hpx_ports.specs.declared.link.Post.TheVariants.{Sent, Received}
 use Rattle.hpx_member.specs.Bodies.{end_body, frames_got, frames_sent, is_frame}
 use Rattle.hpx_member.specs.Leads.{ToldSome}
-use Rattle.hpx_member.specs.Rounds.{AreCounted, AreOwn, Asks, AsksBut, Asking, Began, Ending, Fed, Anew, IsBehind, IsCountedAt, IsOwnAt, IsStillBehind, IsTold, IsUnasked, IsUnfed, Nothing, Refused, TakesCounts, Took, Turn, fed_at, line_at, lines_from, said, tally_of, told_all, told_others, wave_body, word_by, words}
+use Rattle.hpx_member.specs.Rounds.{AreCounted, AreOwn, Asks, AsksBut, Asking, Began, Closed, Ending, Fed, Anew, IsBehind, IsCountedAt, IsDue, IsOwnAt, IsStillBehind, IsTold, IsUnasked, MayGoOn, Nothing, Refused, TakesCounts, Took, Turn, line_at, lines_from, phase_of, said, tally_of, told_all, told_others, wave_body, word_by, words}
 use Rattle.hpx_member.specs.Seats.{MaySend}
+use Rattle.hpx_member.specs.declared.console.Phase.{Phase}
+use Rattle.hpx_member.specs.declared.console.Phase.TheVariants.{Unfed, Serving, LinesOver}
 use Rattle.hpx_member.proofs.Grown.{counts_is, flat-append, flat-one, may_grow, none_later}
 
 some_is : (a b : List Post) → Some a ≡ Some b → a ≡ b
@@ -36,6 +37,7 @@ module _ (r : Rules) (es later : List Entry) where
   Woken (Began p e x ∷ earlier) = length es ≤ e → BeginsAwake later
   Woken (Took from body c ∷ earlier) = Woken earlier
   Woken (Anew ∷ earlier) = Woken earlier
+  Woken (Closed ∷ earlier) = Woken earlier
 
   woken_below : (turns : List Turn) (n : ℕ) → n ≤ length es → (length es ≤ n → BeginsAwake later) → IsBehind turns n → Woken turns
   woken_below [] n within woken h = tt
@@ -43,6 +45,7 @@ module _ (r : Rules) (es later : List Entry) where
   woken_below (Began p e x ∷ earlier) n within woken h = λ j. woken (omega (arith, j, h))
   woken_below (Took from body c ∷ earlier) n within woken h = woken_below earlier n within woken h
   woken_below (Anew ∷ earlier) n within woken h = woken_below earlier n within woken h
+  woken_below (Closed ∷ earlier) n within woken h = woken_below earlier n within woken h
 
   own_at_grows : (e : ℕ) (x : Counted) → (length es ≤ e → BeginsAwake later) → IsOwnAt r es e x → IsOwnAt r (es ++ later) e x
   own_at_grows e x woken own = record {
@@ -66,6 +69,7 @@ module _ (r : Rules) (es later : List Entry) where
       (own_at_grows e x w here, own.1, own_grow earlier (woken_below earlier e here.within w own.1) own.2)
   own_grow (Took from body c ∷ earlier) w own = own_grow earlier w own
   own_grow (Anew ∷ earlier) w own = own_grow earlier w own
+  own_grow (Closed ∷ earlier) w own = own_grow earlier w own
 
   pub woken_of : (idle : Type 0) (turns : List Turn) → AreOwn r es turns → IsStillBehind turns (length es) idle → (idle → BeginsAwake later) → Woken turns
   woken_of idle [] own still woken = tt
@@ -73,6 +77,7 @@ module _ (r : Rules) (es later : List Entry) where
   woken_of idle (Began p e x ∷ earlier) own still woken = λ j. woken (still j)
   woken_of idle (Took from body c ∷ earlier) own still woken = woken_of idle earlier own still woken
   woken_of idle (Anew ∷ earlier) own still woken = woken_of idle earlier own still woken
+  woken_of idle (Closed ∷ earlier) own still woken = woken_of idle earlier own still woken
 
   still_grows : (idle idle' : Type 0) (turns : List Turn) → AreOwn r es turns → IsStillBehind turns (length es) idle → (idle → later ≡ [] → idle')
       → IsStillBehind turns (length (es ++ later)) idle'
@@ -83,6 +88,7 @@ module _ (r : Rules) (es later : List Entry) where
       λ j. f (still (omega (arith, j, length-append es later))) (none_later es later (omega (arith, j, here.within)))
   still_grows idle idle' (Took from body c ∷ earlier) own still f = still_grows idle idle' earlier own still f
   still_grows idle idle' (Anew ∷ earlier) own still f = still_grows idle idle' earlier own still f
+  still_grows idle idle' (Closed ∷ earlier) own still f = still_grows idle idle' earlier own still f
 
 -- all stand behind no more entries than there are
 behind_all : (r : Rules) (es : List Entry) (turns : List Turn) → AreOwn r es turns → IsBehind turns (length es)
@@ -91,6 +97,7 @@ behind_all r es (Fed e ∷ earlier) own = own.0
 behind_all r es (Began p e x ∷ earlier) own = let here : IsOwnAt r es e x = own.0 in here.within
 behind_all r es (Took from body c ∷ earlier) own = behind_all r es earlier own
 behind_all r es (Anew ∷ earlier) own = behind_all r es earlier own
+behind_all r es (Closed ∷ earlier) own = behind_all r es earlier own
 
 -- ---- where lines stand
 
@@ -117,13 +124,6 @@ lines_fed : (es : List Entry) (at : ℕ) (a : Name) (bytes : List ℕ)
     → lines_from 0 (es ++ record { at = at; event = Line a bytes } ∷ []) ≡ length es ∷ lines_from 0 es
 lines_fed es at a bytes = lines_append 0 (length es) es (record { at = at; event = Line a bytes } ∷ []) (omega arith)
 
-unfed_turns : (turns : List Turn) → fed_at turns ≡ [] → IsUnfed turns
-unfed_turns [] h = tt
-unfed_turns (Fed e ∷ earlier) h = absurd (cc)
-unfed_turns (Began p e x ∷ earlier) h = unfed_turns earlier h
-unfed_turns (Took from body c ∷ earlier) h = unfed_turns earlier h
-unfed_turns (Anew ∷ earlier) h = unfed_turns earlier h
-
 -- ---- as the link tells more
 
 counted_at_grows : (tr more before : List Post) (p : ℕ) (x : Counted) → IsCountedAt tr before p x → IsCountedAt (tr ++ more) before p x
@@ -140,6 +140,7 @@ counted_grow n tr more (Fed e ∷ earlier) h = counted_grow n tr more earlier h
 counted_grow n tr more (Began p e x ∷ earlier) h = (counted_at_grows tr more (said n earlier) p x h.0, counted_grow n tr more earlier h.1)
 counted_grow n tr more (Took from body c ∷ earlier) h = counted_grow n tr more earlier h
 counted_grow n tr more (Anew ∷ earlier) h = counted_grow n tr more earlier h
+counted_grow n tr more (Closed ∷ earlier) h = counted_grow n tr more earlier h
 
 -- what holds of what was told so far, and of more behind it
 followed_told : (P Q : List Post → Type 0) (trace trace' : Option (List Post)) (xs : List Post) → trace' ≡ followed trace xs
@@ -162,10 +163,10 @@ words_told body (suc k) h =
 
 -- ---- calls
 
-module _ (r : Rules) (settles : Bool) (idle : Type 0) (es : List Entry) where
-  pub asks_grown : (idle' : Type 0) (later : List Entry) (trace : Option (List Post)) (t : Tally) → Asks r settles idle es trace t
+module _ (r : Rules) (settles : Bool) (phase : Phase) (idle : Type 0) (es : List Entry) where
+  pub asks_grown : (idle' : Type 0) (later : List Entry) (trace : Option (List Post)) (t : Tally) → Asks r settles phase idle es trace t
       → AllByRecursion (λ e. FeedsNothing e.event) later → (idle → BeginsAwake later) → (idle → later ≡ [] → idle')
-      → Asks r settles idle' (es ++ later) trace t
+      → Asks r settles phase idle' (es ++ later) trace t
   asks_grown idle' later trace t a unfed woken still = record {
     turns = a.turns;
     asked = record {
@@ -177,11 +178,12 @@ module _ (r : Rules) (settles : Bool) (idle : Type 0) (es : List Entry) where
       told = a.asked.told;
     };
     still = still_grows r es later idle idle' a.turns a.asked.course.own a.still still;
+    far = a.far;
     is = a.is;
   }
 
-  asks_posts : (trace trace' : Option (List Post)) (xs : List Post) (t : Tally) → Asks r settles idle es trace t → trace' ≡ followed trace xs
-      → words xs ≡ [] → Asks r settles idle es trace' t
+  asks_posts : (trace trace' : Option (List Post)) (xs : List Post) (t : Tally) → Asks r settles phase idle es trace t → trace' ≡ followed trace xs
+      → words xs ≡ [] → Asks r settles phase idle es trace' t
   asks_posts trace trace' xs t a told none = record {
     turns = a.turns;
     asked = record {
@@ -190,21 +192,22 @@ module _ (r : Rules) (settles : Bool) (idle : Type 0) (es : List Entry) where
           (λ old h. silent_told r.localities a.turns xs old none h) a.asked.told;
     };
     still = a.still;
+    far = a.far;
     is = a.is;
   }
 
-  pub asks_sent : (trace trace' : Option (List Post)) (t : Tally) → Asks r settles idle es trace t → MaySend trace trace' → Asks r settles idle es trace' t
-  asks_sent trace trace' t a (inl same) = subst (λ tr. Asks r settles idle es tr t) (sym same) a
+  pub asks_sent : (trace trace' : Option (List Post)) (t : Tally) → Asks r settles phase idle es trace t → MaySend trace trace' → Asks r settles phase idle es trace' t
+  asks_sent trace trace' t a (inl same) = subst (λ tr. Asks r settles phase idle es tr t) (sym same) a
   asks_sent trace trace' t a (inr (to, (frame, (framed, told)))) =
       let none : words (Sent to frame ∷ []) ≡ [] = rw framed refl in asks_posts trace trace' (Sent to frame ∷ []) t a told none
 
-  pub asks_heard : (trace trace' : Option (List Post)) (from : ℕ) (body : List ℕ) (t : Tally) → Asks r settles idle es trace t → is_frame body ≡ true
-      → trace' ≡ followed trace (Received from body ∷ []) → Asks r settles idle es trace' t
+  pub asks_heard : (trace trace' : Option (List Post)) (from : ℕ) (body : List ℕ) (t : Tally) → Asks r settles phase idle es trace t → is_frame body ≡ true
+      → trace' ≡ followed trace (Received from body ∷ []) → Asks r settles phase idle es trace' t
   asks_heard trace trace' from body t a framed told =
       let none : words (Received from body ∷ []) ≡ [] = rw framed refl in asks_posts trace trace' (Received from body ∷ []) t a told none
 
-  pub asks_took : (trace trace' : Option (List Post)) (from : ℕ) (body : List ℕ) (t t' : Tally) → Asks r settles idle es trace t → TakesCounts from body t t'
-      → trace' ≡ followed trace (Received from body ∷ []) → Asks r settles idle es trace' t'
+  pub asks_took : (trace trace' : Option (List Post)) (from : ℕ) (body : List ℕ) (t t' : Tally) → Asks r settles phase idle es trace t → TakesCounts from body t t'
+      → trace' ≡ followed trace (Received from body ∷ []) → Asks r settles phase idle es trace' t'
   asks_took trace trace' from body t t' a took told =
       let one : word_by (Received from body) ≡ Received from body ∷ [] = rw (counts_is body took.told took.counts) refl in
       record {
@@ -223,6 +226,7 @@ module _ (r : Rules) (settles : Bool) (idle : Type 0) (es : List Entry) where
               }) a.asked.told;
         };
         still = a.still;
+        far = a.far;
         is = took.is ∙ ap (counted from (record { sent = took.told.sent; taken = took.told.taken })) a.is;
       }
 
@@ -233,30 +237,53 @@ module _ (r : Rules) (settles : Bool) (idle : Type 0) (es : List Entry) where
   silent_turn x turns same counts trace told tr t =
       let h = told tr t in record { words = h.words ∙ sym same; counted = counts tr h.counted }
 
-  pub asks_anew : (trace : Option (List Post)) (t t' : Tally) → Asks r settles idle es trace t → waits t ≡ false → t' ≡ fresh r.localities
-      → Asks r settles idle es trace t'
-  asks_anew trace t t' a done is = record {
+  pub asks_anew : (trace : Option (List Post)) (t t' : Tally) → Asks r settles phase idle es trace t → waits t ≡ false → t.begun ≡ 4294967295 → t' ≡ fresh r.localities
+      → Asks r settles phase idle es trace t'
+  asks_anew trace t t' a done last is = record {
     turns = Anew ∷ a.turns;
     asked = record {
       course = record {
-        order = (subst (λ x. waits x ≡ false) a.is done, a.asked.course.order);
+        order = (subst (λ x. (waits x ≡ false) × (x.begun ≡ 4294967295)) a.is (done, last), a.asked.course.order);
         own = a.asked.course.own;
         lines = a.asked.course.lines;
       };
       told = silent_turn Anew a.turns (append-nil (said r.localities a.turns)) (λ tr h. h) trace a.asked.told;
     };
     still = a.still;
+    far = a.far;
     is = is;
   }
 
-  pub asks_fed : (idle' : Type 0) (at : ℕ) (a : Name) (bytes : List ℕ) (trace : Option (List Post)) (t t' : Tally) → Asks r settles idle es trace t
-      → waits t ≡ false → (settles ≡ true → (es ≡ []) ⊎ (verdict_of t ≡ Ended)) → t' ≡ fresh r.localities
-      → Asks r settles idle' (es ++ record { at = at; event = Line a bytes } ∷ []) trace t'
-  asks_fed idle' at a bytes trace t t' x done settled is = record {
+  -- a line may be fed, or the lines be over
+  may_go_on : (trace : Option (List Post)) (t : Tally) (a : Asks r settles phase idle es trace t) → MayGoOn settles t phase
+      → MayGoOn settles (tally_of r.localities a.turns) (phase_of a.turns)
+  may_go_on trace t a next = subst (λ y. MayGoOn settles y (phase_of a.turns)) a.is (subst (MayGoOn settles t) a.far next)
+
+  pub asks_closed : (trace : Option (List Post)) (t t' : Tally) → Asks r settles phase idle es trace t → MayGoOn settles t phase → t' ≡ fresh r.localities
+      → Asks r settles LinesOver idle es trace t'
+  asks_closed trace t t' a next is = record {
+    turns = Closed ∷ a.turns;
+    asked = record {
+      course = record {
+        order = (may_go_on trace t a next, a.asked.course.order);
+        own = a.asked.course.own;
+        lines = a.asked.course.lines;
+      };
+      told = silent_turn Closed a.turns (append-nil (said r.localities a.turns)) (λ tr h. h) trace a.asked.told;
+    };
+    still = a.still;
+    far = refl;
+    is = is;
+  }
+
+  pub asks_fed : (idle' : Type 0) (at : ℕ) (a : Name) (bytes : List ℕ) (trace : Option (List Post)) (t t' : Tally) → Asks r settles phase idle es trace t
+      → MayGoOn settles t phase → t' ≡ fresh r.localities
+      → Asks r settles Serving idle' (es ++ record { at = at; event = Line a bytes } ∷ []) trace t'
+  asks_fed idle' at a bytes trace t t' x next is = record {
     turns = Fed (length es) ∷ x.turns;
     asked = record {
       course = record {
-        order = ((subst (λ y. waits y ≡ false) x.is done, λ on. ended (settled on)), x.asked.course.order);
+        order = (may_go_on trace t x next, x.asked.course.order);
         own = (
           omega (arith, length-append es (record { at = at; event = Line a bytes } ∷ [])),
           behind_all r es x.turns x.asked.course.own,
@@ -268,12 +295,9 @@ module _ (r : Rules) (settles : Bool) (idle : Type 0) (es : List Entry) where
       told = silent_turn (Fed (length es)) x.turns (append-nil (said r.localities x.turns)) (λ tr h. h) trace x.asked.told;
     };
     still = tt;
+    far = refl;
     is = is;
   }
-    where
-      ended : (es ≡ []) ⊎ (verdict_of t ≡ Ended) → IsUnfed x.turns ⊎ (verdict_of (tally_of r.localities x.turns) ≡ Ended)
-      ended (inl none) = inl (unfed_turns x.turns (x.asked.course.lines ∙ ap (lines_from 0) none))
-      ended (inr over) = inr (subst (λ y. verdict_of y ≡ Ended) x.is over)
 
 -- how many posts there are, where it tells
 abbrev count_in : Option (List Post) → ℕ
@@ -308,15 +332,15 @@ began_told n e x turns (Some old) trace' xs is posts all frames told tr t =
       );
     }
 
-pub asks_began : (r : Rules) (settles : Bool) (idle : Type 0) (es : List Entry) (trace trace' : Option (List Post)) (others : ℕ) (x : Counted) (t t' : Tally)
-    → Asks r settles idle es trace t → idle → r.localities ≡ suc others → waits t ≡ false → IsOwnAt r es (length es) x
+pub asks_began : (r : Rules) (settles : Bool) (phase : Phase) (idle : Type 0) (es : List Entry) (trace trace' : Option (List Post)) (others : ℕ) (x : Counted) (t t' : Tally)
+    → Asks r settles phase idle es trace t → idle → r.localities ≡ suc others → waits t ≡ false → IsDue settles phase → IsOwnAt r es (length es) x
     → ((tr : List Post) → trace ≡ Some tr → (x.sent ≡ length (frames_sent 0 tr)) × (x.taken ≡ length (frames_got 0 tr)))
-    → trace' ≡ followed trace (told_all (wave_body t.begun) others) → t' ≡ opened x t → Asks r settles idle es trace' t'
-asks_began r settles idle es trace trace' others x t t' a now members done own frames told is = record {
+    → trace' ≡ followed trace (told_all (wave_body t.begun) others) → t' ≡ opened x t → Asks r settles phase idle es trace' t'
+asks_began r settles phase idle es trace trace' others x t t' a now members done due own frames told is = record {
   turns = Began (count_in trace) (length es) x ∷ a.turns;
   asked = record {
     course = record {
-      order = (subst (λ y. waits y ≡ false) a.is done, a.asked.course.order);
+      order = ((subst (λ y. waits y ≡ false) a.is done, subst (IsDue settles) a.far due), a.asked.course.order);
       own = (own, behind_all r es a.turns a.asked.course.own, a.asked.course.own);
       lines = a.asked.course.lines;
     };
@@ -326,13 +350,14 @@ asks_began r settles idle es trace trace' others x t t' a now members done own f
         (words_told (wave_body t.begun) others refl) frames a.asked.told;
   };
   still = λ j. now;
+  far = a.far;
   is = is ∙ ap (opened x) a.is;
 }
 
 -- ---- at the start
 
 pub asks_first : (r : Rules) (settles : Bool) (idle : Type 0) (es : List Entry) (trace : Option (List Post)) (t : Tally) → es ≡ []
-    → ((tr : List Post) → trace ≡ Some tr → tr ≡ []) → t ≡ fresh r.localities → Asks r settles idle es trace t
+    → ((tr : List Post) → trace ≡ Some tr → tr ≡ []) → t ≡ fresh r.localities → Asks r settles Unfed idle es trace t
 asks_first r settles idle es trace t none empty is = record {
   turns = [];
   asked = record {
@@ -340,6 +365,7 @@ asks_first r settles idle es trace t none empty is = record {
     told = λ tr t. subst (IsTold r.localities []) (sym (empty tr t)) (record { words = refl; counted = tt });
   };
   still = tt;
+  far = refl;
   is = is;
 }
 
@@ -349,8 +375,8 @@ followed_none : (trace : Option (List Post)) → trace ≡ followed trace []
 followed_none None = refl
 followed_none (Some tr) = ap (λ x. Some x) (sym (append-nil tr))
 
-module _ (r : Rules) (settles : Bool) (idle : Type 0) (es : List Entry) (trace trace' : Option (List Post)) (t : Tally)
-    (a : Asks r settles idle es trace t) where
+module _ (r : Rules) (settles : Bool) (phase : Phase) (idle : Type 0) (es : List Entry) (trace trace' : Option (List Post)) (t : Tally)
+    (a : Asks r settles phase idle es trace t) where
   pub asks_whole : AsksBut r settles es trace Nothing
   asks_whole = record { earlier = trace; is = followed_none trace; turns = a.turns; asked = a.asked; closes = tt }
 
@@ -364,24 +390,25 @@ module _ (r : Rules) (settles : Bool) (idle : Type 0) (es : List Entry) (trace t
     closes = subst (λ y. IsUnasked y from body) a.is odd;
   }
 
-  pub asks_asking : (others : ℕ) (s : ToldSome (wave_body t.begun) others trace trace') → r.localities ≡ suc others
+  pub asks_asking : (others : ℕ) (s : ToldSome (wave_body t.begun) others trace trace') → r.localities ≡ suc others → IsDue settles phase
       → AsksBut r settles es trace' (Asking t.begun s.some)
-  asks_asking others s members = record {
+  asks_asking others s members due = record {
     earlier = trace;
     is = s.is;
     turns = a.turns;
     asked = a.asked;
-    closes = (ap (λ (y : Tally). y.begun) a.is, omega (arith, s.few, members));
+    closes = (subst (IsDue settles) a.far due, ap (λ (y : Tally). y.begun) a.is, omega (arith, s.few, members));
   }
 
-  pub asks_ending : (others some : ℕ) → trace' ≡ followed trace (told_all end_body some) → some ≤ others → r.localities ≡ suc others → verdict_of t ≡ Ended
+  pub asks_ending : (others some : ℕ) → trace' ≡ followed trace (told_all end_body some) → some ≤ others → r.localities ≡ suc others
+      → phase ≡ LinesOver → verdict_of t ≡ Ended
       → AsksBut r settles es trace' (Ending some)
-  asks_ending others some told few members over = record {
+  asks_ending others some told few members closed over = record {
     earlier = trace;
     is = told;
     turns = a.turns;
     asked = a.asked;
-    closes = (subst (λ y. verdict_of y ≡ Ended) a.is over, omega (arith, few, members));
+    closes = (sym a.far ∙ closed, subst (λ y. verdict_of y ≡ Ended) a.is over, omega (arith, few, members));
   }
 
 -- ---- how many members are counted
@@ -392,10 +419,11 @@ tally_count n (Fed e ∷ earlier) = length-replicate _ _
 tally_count n (Began p e x ∷ earlier) = length-set _ _ _ ∙ (length-replicate _ _ ∙ tally_count n earlier)
 tally_count n (Took from body c ∷ earlier) = length-set _ _ _ ∙ tally_count n earlier
 tally_count n (Anew ∷ earlier) = length-replicate _ _
+tally_count n (Closed ∷ earlier) = length-replicate _ _
 
-pub asks_count : (r : Rules) (settles : Bool) (idle : Type 0) (es : List Entry) (trace : Option (List Post)) (t : Tally) → Asks r settles idle es trace t
+pub asks_count : (r : Rules) (settles : Bool) (phase : Phase) (idle : Type 0) (es : List Entry) (trace : Option (List Post)) (t : Tally) → Asks r settles phase idle es trace t
     → length t.answers ≡ r.localities
-asks_count r settles idle es trace t a = ap (λ (y : Tally). length y.answers) a.is ∙ tally_count r.localities a.turns
+asks_count r settles phase idle es trace t a = ap (λ (y : Tally). length y.answers) a.is ∙ tally_count r.localities a.turns
 
 -- ---- a word that is told to one more member
 

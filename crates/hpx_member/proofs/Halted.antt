@@ -16,6 +16,7 @@ use Rattle.hpx_member.specs.Seats.{IsPart, Meaning, Sits, Tells}
 use Rattle.hpx_member.specs.Serves.{Done, IsIdleBehind, Serves, Stage}
 use Rattle.hpx_member.specs.Stops.{fault_of, status_of}
 use Rattle.hpx_member.specs.Talks.{IsLineCause, Only, Talk}
+use Rattle.hpx_member.specs.declared.console.Phase.TheVariants.{Unfed}
 use Rattle.hpx_member.specs.declared.lines.LineFault.{LineFault}
 use Rattle.hpx_member.specs.declared.lines.LineFault.TheVariants as line_faults
 use Rattle.hpx_member.specs.declared.stop.Halt.{Halt}
@@ -117,7 +118,7 @@ pub asked_unbooted : (r : Rules) (settles : Bool) (status : ℕ) (fault : Option
     → ((tr : List Post) → trace ≡ Some tr → tr ≡ []) → HasAsked r settles status fault es trace
 asked_unbooted r settles status fault es trace is none empty = record {
   last = Nothing;
-  asked = asks_whole r settles (Unit {0}) es trace trace (fresh r.localities) (asks_first r settles (Unit {0}) es trace (fresh r.localities) none empty refl);
+  asked = asks_whole r settles Unfed (Unit {0}) es trace trace (fresh r.localities) (asks_first r settles (Unit {0}) es trace (fresh r.localities) none empty refl);
   ends = λ zero. omega (arith, is, zero);
 }
 
@@ -154,7 +155,7 @@ module _ (act_of : Meaning) (n : ℕ) (profile : Profile) (t : Tables) (es : Lis
     where
       rested : (ran : Result (Unit {0}) Halt) → OnOk ran (Sits act_of t es [] trace) → OnOk ran (IsReady t) → halted_status ran ≡ 0
           → IsIdleBehind (rules_of act_of t.localities t.profile) es
-      rested (Ok x) sits ready e = idle_ready act_of 0 true t es trace here sits ready
+      rested (Ok x) sits ready e = idle_ready act_of 0 true Unfed t es trace here sits ready
       rested (Err halt) sits ready e = absurd (halt_some halt e)
 
 -- ---- the faults of lines

@@ -1,6 +1,5 @@
 -- What a console keeps over each call.
 use Rattle.std.proofs.Common.{ℕ, zero, suc, Bool, true, false, List, [], ◌∷◌, ◌≡◌, Option, Some, refl, sym, ap, ◌∙◌, subst, inl, inr, arith, length, append-nil}
-use Rattle.std.specs.Prelude.{◌⊎◌}
 use Rattle.std.proofs.Math.Seq.{take-length, drop-length}
 use Rattle.std.proofs.lemmas.Bool.{cases_Bool}
 use Rattle.hpx_journal.specs.Laws.{outs, ins}
@@ -20,69 +19,82 @@ use Rattle.hpx_ports.specs.declared.link.Post.TheVariants.{Received}
 use Rattle.hpx_member.specs.Bodies.{end_body, frames_got, frames_sent, heard, is_frame}
 use Rattle.hpx_member.specs.Feeding.{IsIdle}
 use Rattle.hpx_member.specs.Leads.{IsOfLink, IsReady, Leads, LeadsLeft, ToldSome}
-use Rattle.hpx_member.specs.Rounds.{Asks, AsksBut, Ending, IsOwnAt, IsUnasked, Asking, Nothing, Refused, TakesCounts, told_all, wave_body}
+use Rattle.hpx_member.specs.Rounds.{Asks, AsksBut, Ending, IsDue, IsOwnAt, IsUnasked, Asking, MayGoOn, Nothing, Refused, TakesCounts, told_all, wave_body}
 use Rattle.hpx_member.specs.Seats.{Grows, IsSameSite, IsTraced, MaySend, Meaning, Sits}
 use Rattle.hpx_member.specs.Serves.{IsIdleBehind}
 use Rattle.hpx_member.specs.Stops.{IsOther, MayLeave}
+use Rattle.hpx_member.specs.declared.console.Phase.{Phase}
+use Rattle.hpx_member.specs.declared.console.Phase.TheVariants.{Unfed, Serving, LinesOver}
 use Rattle.hpx_member.specs.declared.stop.MemberFault.TheVariants.{OutOfPlace}
 use Rattle.hpx_member.specs.declared.stop.Stop.{Stop}
 use Rattle.hpx_member.specs.declared.stop.Stop.TheVariants.{Fault}
-use Rattle.hpx_member.proofs.Asked.{asks_anew, asks_asking, asks_began, asks_count, asks_ending, asks_fed, asks_first, asks_grown, asks_heard, asks_refused, asks_sent, asks_took, asks_whole}
+use Rattle.hpx_member.proofs.Asked.{asks_anew, asks_asking, asks_began, asks_closed, asks_count, asks_ending, asks_fed, asks_first, asks_grown, asks_heard, asks_refused, asks_sent, asks_took, asks_whole}
 use Rattle.hpx_member.proofs.Seated.{rules_at, rules_same, sits_fed, sits_left, sits_told, sits_whole}
 use Rattle.hpx_member.proofs.Turned.{rests, sent_is, site_of, taken_is, waits_for}
 
-module _ (act_of : Meaning) (others : ℕ) (settles : Bool) where
-  grown : (t t' : Tables) (es es' : List Entry) (trace : Option (List Post)) (waves : Tally) → Asks (rules_at act_of t) settles (IsPassive t) es trace waves
-      → IsSameSite t t' → Grows t t' es es' → Asks (rules_at act_of t') settles (IsPassive t') es' trace waves
+module _ (act_of : Meaning) (others : ℕ) (settles : Bool) (phase : Phase) where
+  grown : (t t' : Tables) (es es' : List Entry) (trace : Option (List Post)) (waves : Tally) → Asks (rules_at act_of t) settles phase (IsPassive t) es trace waves
+      → IsSameSite t t' → Grows t t' es es' → Asks (rules_at act_of t') settles phase (IsPassive t') es' trace waves
   grown t t' es es' trace waves a s g =
-      subst (λ r. Asks r settles (IsPassive t') es' trace waves) (sym (rules_same act_of t t' s))
-      (subst (λ xs. Asks (rules_at act_of t) settles (IsPassive t') xs trace waves) (sym g.is)
-      (asks_grown (rules_at act_of t) settles (IsPassive t) es (IsPassive t') g.later trace waves a g.unfed g.woken g.still))
+      subst (λ r. Asks r settles phase (IsPassive t') es' trace waves) (sym (rules_same act_of t t' s))
+      (subst (λ xs. Asks (rules_at act_of t) settles phase (IsPassive t') xs trace waves) (sym g.is)
+      (asks_grown (rules_at act_of t) settles phase (IsPassive t) es (IsPassive t') g.later trace waves a g.unfed g.woken g.still))
 
-  pub leads_gone : (t t' : Tables) (es es' : List Entry) (trace trace' : Option (List Post)) (waves : Tally) → Leads act_of others settles t es trace waves
-      → Sits act_of t' es' [] trace' → IsSameSite t t' → Grows t t' es es' → MaySend trace trace' → Leads act_of others settles t' es' trace' waves
+  pub leads_gone : (t t' : Tables) (es es' : List Entry) (trace trace' : Option (List Post)) (waves : Tally) → Leads act_of others settles phase t es trace waves
+      → Sits act_of t' es' [] trace' → IsSameSite t t' → Grows t t' es es' → MaySend trace trace' → Leads act_of others settles phase t' es' trace' waves
   leads_gone t t' es es' trace trace' waves l sits s g m = record {
     here = s.here ∙ l.here;
     members = s.localities ∙ l.members;
     sits = sits;
-    asks = asks_sent (rules_at act_of t') settles (IsPassive t') es' trace trace' waves (grown t t' es es' trace waves l.asks s g) m;
+    asks = asks_sent (rules_at act_of t') settles phase (IsPassive t') es' trace trace' waves (grown t t' es es' trace waves l.asks s g) m;
   }
 
   pub leads_accepted : (t t' : Tables) (es es' : List Entry) (trace trace' : Option (List Post)) (waves : Tally) (from : ℕ) (body : List ℕ)
-      → Leads act_of others settles t es trace waves → is_frame body ≡ true → trace' ≡ followed trace (Received from body ∷ [])
-      → Sits act_of t' es' [] trace' → IsSameSite t t' → Grows t t' es es' → Leads act_of others settles t' es' trace' waves
+      → Leads act_of others settles phase t es trace waves → is_frame body ≡ true → trace' ≡ followed trace (Received from body ∷ [])
+      → Sits act_of t' es' [] trace' → IsSameSite t t' → Grows t t' es es' → Leads act_of others settles phase t' es' trace' waves
   leads_accepted t t' es es' trace trace' waves from body l framed told sits s g = record {
     here = s.here ∙ l.here;
     members = s.localities ∙ l.members;
     sits = sits;
-    asks = asks_heard (rules_at act_of t') settles (IsPassive t') es' trace trace' from body waves (grown t t' es es' trace waves l.asks s g) framed told;
+    asks = asks_heard (rules_at act_of t') settles phase (IsPassive t') es' trace trace' from body waves (grown t t' es es' trace waves l.asks s g) framed told;
   }
 
   pub leads_counted : (t : Tables) (es : List Entry) (trace trace' : Option (List Post)) (waves waves' : Tally) (from : ℕ) (body : List ℕ)
-      → Leads act_of others settles t es trace waves → is_frame body ≡ false → trace' ≡ followed trace (Received from body ∷ [])
-      → Sits act_of t es (heard t.here body) trace' → TakesCounts from body waves waves' → Leads act_of others settles t es trace' waves'
+      → Leads act_of others settles phase t es trace waves → is_frame body ≡ false → trace' ≡ followed trace (Received from body ∷ [])
+      → Sits act_of t es (heard t.here body) trace' → TakesCounts from body waves waves' → Leads act_of others settles phase t es trace' waves'
   leads_counted t es trace trace' waves waves' from body l control told sits took = record {
     here = l.here;
     members = l.members;
     sits = sits_told act_of t es trace' body sits control;
-    asks = asks_took (rules_at act_of t) settles (IsPassive t) es trace trace' from body waves waves' l.asks took told;
+    asks = asks_took (rules_at act_of t) settles phase (IsPassive t) es trace trace' from body waves waves' l.asks took told;
   }
 
   -- nothing has changed
-  pub leads_same : (t t' : Tables) (es es' : List Entry) (trace trace' : Option (List Post)) (waves : Tally) → Leads act_of others settles t es trace waves
-      → t' ≡ t → es' ≡ es → trace' ≡ trace → Leads act_of others settles t' es' trace' waves
+  pub leads_same : (t t' : Tables) (es es' : List Entry) (trace trace' : Option (List Post)) (waves : Tally) → Leads act_of others settles phase t es trace waves
+      → t' ≡ t → es' ≡ es → trace' ≡ trace → Leads act_of others settles phase t' es' trace' waves
   leads_same t t' es es' trace trace' waves l tables entries traces =
-      subst (λ x. Leads act_of others settles x es' trace' waves) (sym tables)
-      (subst (λ xs. Leads act_of others settles t xs trace' waves) (sym entries) (subst (λ tr. Leads act_of others settles t es tr waves) (sym traces) l))
+      subst (λ x. Leads act_of others settles phase x es' trace' waves) (sym tables)
+      (subst (λ xs. Leads act_of others settles phase t xs trace' waves) (sym entries) (subst (λ tr. Leads act_of others settles phase t es tr waves) (sym traces) l))
 
-  pub leads_anew : (t : Tables) (es : List Entry) (trace : Option (List Post)) (waves waves' : Tally) → Leads act_of others settles t es trace waves
-      → waits waves ≡ false → waves' ≡ fresh (length waves.answers) → Leads act_of others settles t es trace waves'
-  leads_anew t es trace waves waves' l done is = record {
+  pub leads_anew : (t : Tables) (es : List Entry) (trace : Option (List Post)) (waves waves' : Tally) → Leads act_of others settles phase t es trace waves
+      → waits waves ≡ false → waves.begun ≡ 4294967295 → waves' ≡ fresh (length waves.answers) → Leads act_of others settles phase t es trace waves'
+  leads_anew t es trace waves waves' l done last is = record {
     here = l.here;
     members = l.members;
     sits = l.sits;
-    asks = asks_anew (rules_at act_of t) settles (IsPassive t) es trace waves waves' l.asks done
-        (is ∙ ap fresh (asks_count (rules_at act_of t) settles (IsPassive t) es trace waves l.asks));
+    asks = asks_anew (rules_at act_of t) settles phase (IsPassive t) es trace waves waves' l.asks done last
+        (is ∙ ap fresh (asks_count (rules_at act_of t) settles phase (IsPassive t) es trace waves l.asks));
+  }
+
+  -- the lines are over
+  pub leads_closed : (t : Tables) (es : List Entry) (trace : Option (List Post)) (waves waves' : Tally) → Leads act_of others settles phase t es trace waves
+      → MayGoOn settles waves phase → waves' ≡ fresh (length waves.answers) → Leads act_of others settles LinesOver t es trace waves'
+  leads_closed t es trace waves waves' l next is = record {
+    here = l.here;
+    members = l.members;
+    sits = l.sits;
+    asks = asks_closed (rules_at act_of t) settles phase (IsPassive t) es trace waves waves' l.asks next
+        (is ∙ ap fresh (asks_count (rules_at act_of t) settles phase (IsPassive t) es trace waves l.asks));
   }
 
   -- its own numbers, where nothing is to be done
@@ -109,112 +121,106 @@ module _ (act_of : Meaning) (others : ℕ) (settles : Bool) where
         taken_is act_of t es sits.stands sits.seated.own ∙ (ap length (sym (append-nil (ins es)) ∙ sym x.came) ∙ ap (λ k. length (frames_got k tr)) here),
       )
 
-  pub leads_began : (t : Tables) (es : List Entry) (trace trace' : Option (List Post)) (waves waves' : Tally) → Leads act_of others settles t es trace waves
-      → IsPassive t → waits waves ≡ false → Sits act_of t es [] trace' → trace' ≡ followed trace (told_all (wave_body waves.begun) others)
-      → waves' ≡ opened (record { sent = t.sent; taken = t.taken }) waves → Leads act_of others settles t es trace' waves'
-  leads_began t es trace trace' waves waves' l passive done sits told is = record {
+  pub leads_began : (t : Tables) (es : List Entry) (trace trace' : Option (List Post)) (waves waves' : Tally) → Leads act_of others settles phase t es trace waves
+      → IsPassive t → waits waves ≡ false → IsDue settles phase → Sits act_of t es [] trace'
+      → trace' ≡ followed trace (told_all (wave_body waves.begun) others)
+      → waves' ≡ opened (record { sent = t.sent; taken = t.taken }) waves → Leads act_of others settles phase t es trace' waves'
+  leads_began t es trace trace' waves waves' l passive done due sits told is = record {
     here = l.here;
     members = l.members;
     sits = sits;
-    asks = asks_began (rules_at act_of t) settles (IsPassive t) es trace trace' others (record { sent = t.sent; taken = t.taken }) waves waves' l.asks passive
-        l.members done (own_here t es trace l.here l.sits passive) (frames_here t es trace l.here l.sits) told is;
+    asks = asks_began (rules_at act_of t) settles phase (IsPassive t) es trace trace' others (record { sent = t.sent; taken = t.taken }) waves waves' l.asks passive
+        l.members done due (own_here t es trace l.here l.sits passive) (frames_here t es trace l.here l.sits) told is;
   }
 
   pub leads_fed : (t t' : Tables) (es es' : List Entry) (trace : Option (List Post)) (waves waves' : Tally) (a : Name) (bytes : List ℕ)
-      → Leads act_of others settles t es trace waves → waits waves ≡ false → (settles ≡ true → (es ≡ []) ⊎ (verdict_of waves ≡ Ended))
+      → Leads act_of others settles phase t es trace waves → MayGoOn settles waves phase
       → Writes (Line a bytes ∷ []) t t' es es' → Stands act_of t' es' → IsWithin es' → waves' ≡ fresh (length waves.answers)
-      → Leads act_of others settles t' es' trace waves'
-  leads_fed t t' es es' trace waves waves' a bytes l done settled writes stands within is =
+      → Leads act_of others settles Serving t' es' trace waves'
+  leads_fed t t' es es' trace waves waves' a bytes l next writes stands within is =
       let s : IsSameSite t t' = site_of t t' es es' _ writes in
       record {
         here = s.here ∙ l.here;
         members = s.localities ∙ l.members;
         sits = sits_fed act_of t t' es es' trace a bytes l.sits writes stands within;
-        asks = subst (λ r. Asks r settles (IsPassive t') es' trace waves') (sym (rules_same act_of t t' s))
-            (subst (λ xs. Asks (rules_at act_of t) settles (IsPassive t') xs trace waves') (sym writes.grows)
-            (asks_fed (rules_at act_of t) settles (IsPassive t) es (IsPassive t') t.here a bytes trace waves waves' l.asks done settled
-            (is ∙ ap fresh (asks_count (rules_at act_of t) settles (IsPassive t) es trace waves l.asks))));
+        asks = subst (λ r. Asks r settles Serving (IsPassive t') es' trace waves') (sym (rules_same act_of t t' s))
+            (subst (λ xs. Asks (rules_at act_of t) settles Serving (IsPassive t') xs trace waves') (sym writes.grows)
+            (asks_fed (rules_at act_of t) settles phase (IsPassive t) es (IsPassive t') t.here a bytes trace waves waves' l.asks next
+            (is ∙ ap fresh (asks_count (rules_at act_of t) settles phase (IsPassive t) es trace waves l.asks))));
       }
-
-  pub leads_first : (t : Tables) (es : List Entry) (trace : Option (List Post)) (waves : Tally) → t.here ≡ 0 → t.localities ≡ suc others
-      → Sits act_of t es [] trace → es ≡ [] → ((tr : List Post) → trace ≡ Some tr → tr ≡ []) → waves ≡ fresh t.localities
-      → Leads act_of others settles t es trace waves
-  leads_first t es trace waves here members sits none empty is = record {
-    here = here;
-    members = members;
-    sits = sits;
-    asks = asks_first (rules_at act_of t) settles (IsPassive t) es trace waves none empty is;
-  }
 
   -- ---- where it stops
 
-  pub left_whole : (stop : Stop) (t : Tables) (es : List Entry) (trace : Option (List Post)) (waves : Tally) → Leads act_of others settles t es trace waves
+  pub left_whole : (stop : Stop) (t : Tables) (es : List Entry) (trace : Option (List Post)) (waves : Tally) → Leads act_of others settles phase t es trace waves
       → IsOther stop → LeadsLeft act_of settles stop t es trace
   left_whole stop t es trace waves l other = record {
     left = sits_whole act_of stop t es trace l.sits;
     last = Nothing;
-    asks = asks_whole (rules_at act_of t) settles (IsPassive t) es trace trace waves l.asks;
+    asks = asks_whole (rules_at act_of t) settles phase (IsPassive t) es trace trace waves l.asks;
     closes = other;
   }
 
   pub left_accepted : (stop : Stop) (t t' : Tables) (es es' : List Entry) (trace trace' : Option (List Post)) (waves : Tally) (from : ℕ) (body : List ℕ)
-      → Leads act_of others settles t es trace waves → is_frame body ≡ true → trace' ≡ followed trace (Received from body ∷ [])
+      → Leads act_of others settles phase t es trace waves → is_frame body ≡ true → trace' ≡ followed trace (Received from body ∷ [])
       → Sits act_of t' es' (heard t'.here body) trace' → IsSameSite t t' → Grows t t' es es' → MayLeave stop → IsOther stop
       → LeadsLeft act_of settles stop t' es' trace'
   left_accepted stop t t' es es' trace trace' waves from body l framed told sits s g may other = record {
     left = sits_left act_of stop t' es' trace' body may sits framed;
     last = Nothing;
-    asks = asks_whole (rules_at act_of t') settles (IsPassive t') es' trace' trace' waves
-        (asks_heard (rules_at act_of t') settles (IsPassive t') es' trace trace' from body waves (grown t t' es es' trace waves l.asks s g) framed told);
+    asks = asks_whole (rules_at act_of t') settles phase (IsPassive t') es' trace' trace' waves
+        (asks_heard (rules_at act_of t') settles phase (IsPassive t') es' trace trace' from body waves (grown t t' es es' trace waves l.asks s g) framed told);
     closes = other;
   }
 
   pub left_refused : (t : Tables) (es : List Entry) (trace trace' : Option (List Post)) (waves : Tally) (from : ℕ) (body : List ℕ)
-      → Leads act_of others settles t es trace waves → is_frame body ≡ false → trace' ≡ followed trace (Received from body ∷ [])
+      → Leads act_of others settles phase t es trace waves → is_frame body ≡ false → trace' ≡ followed trace (Received from body ∷ [])
       → Sits act_of t es (heard t.here body) trace' → IsUnasked waves from body → LeadsLeft act_of settles (Fault (OutOfPlace from)) t es trace'
   left_refused t es trace trace' waves from body l control told sits odd = record {
     left = sits_whole act_of (Fault (OutOfPlace from)) t es trace' (sits_told act_of t es trace' body sits control);
     last = Refused from body;
-    asks = asks_refused (rules_at act_of t) settles (IsPassive t) es trace trace' waves l.asks from body told odd;
+    asks = asks_refused (rules_at act_of t) settles phase (IsPassive t) es trace trace' waves l.asks from body told odd;
     closes = refl;
   }
 
-  pub left_asking : (stop : Stop) (t : Tables) (es : List Entry) (trace trace' : Option (List Post)) (waves : Tally) → Leads act_of others settles t es trace waves
-      → Sits act_of t es [] trace' → ToldSome (wave_body waves.begun) others trace trace' → IsOfLink stop → LeadsLeft act_of settles stop t es trace'
-  left_asking stop t es trace trace' waves l sits told link = record {
+  pub left_asking : (stop : Stop) (t : Tables) (es : List Entry) (trace trace' : Option (List Post)) (waves : Tally) → Leads act_of others settles phase t es trace waves
+      → Sits act_of t es [] trace' → ToldSome (wave_body waves.begun) others trace trace' → IsDue settles phase → IsOfLink stop
+      → LeadsLeft act_of settles stop t es trace'
+  left_asking stop t es trace trace' waves l sits told due link = record {
     left = sits_whole act_of stop t es trace' sits;
     last = Asking waves.begun told.some;
-    asks = asks_asking (rules_at act_of t) settles (IsPassive t) es trace trace' waves l.asks others told l.members;
+    asks = asks_asking (rules_at act_of t) settles phase (IsPassive t) es trace trace' waves l.asks others told l.members due;
     closes = link;
   }
 
-  pub left_ending : (stop : Stop) (t : Tables) (es : List Entry) (trace trace' : Option (List Post)) (waves : Tally) → Leads act_of others settles t es trace waves
-      → verdict_of waves ≡ Ended → Sits act_of t es [] trace' → ToldSome end_body others trace trace' → IsOfLink stop → LeadsLeft act_of settles stop t es trace'
-  left_ending stop t es trace trace' waves l over sits told link = record {
+  pub left_ending : (stop : Stop) (t : Tables) (es : List Entry) (trace trace' : Option (List Post)) (waves : Tally) → Leads act_of others settles phase t es trace waves
+      → phase ≡ LinesOver → verdict_of waves ≡ Ended → Sits act_of t es [] trace' → ToldSome end_body others trace trace' → IsOfLink stop
+      → LeadsLeft act_of settles stop t es trace'
+  left_ending stop t es trace trace' waves l closed over sits told link = record {
     left = sits_whole act_of stop t es trace' sits;
     last = Ending told.some;
-    asks = asks_ending (rules_at act_of t) settles (IsPassive t) es trace trace' waves l.asks others told.some told.is told.few l.members over;
+    asks = asks_ending (rules_at act_of t) settles phase (IsPassive t) es trace trace' waves l.asks others told.some told.is told.few l.members closed over;
     closes = link;
   }
 
-  pub but_ending : (t : Tables) (es : List Entry) (trace trace' : Option (List Post)) (waves : Tally) → Leads act_of others settles t es trace waves
-      → verdict_of waves ≡ Ended → trace' ≡ followed trace (told_all end_body others)
+  pub but_ending : (t : Tables) (es : List Entry) (trace trace' : Option (List Post)) (waves : Tally) → Leads act_of others settles phase t es trace waves
+      → phase ≡ LinesOver → verdict_of waves ≡ Ended → trace' ≡ followed trace (told_all end_body others)
       → AsksBut (rules_of act_of t.localities t.profile) settles es trace' (Ending others)
-  but_ending t es trace trace' waves l over told =
-      asks_ending (rules_at act_of t) settles (IsPassive t) es trace trace' waves l.asks others others told (omega arith) l.members over
+  but_ending t es trace trace' waves l closed over told =
+      asks_ending (rules_at act_of t) settles phase (IsPassive t) es trace trace' waves l.asks others others told (omega arith) l.members closed over
 
-  pub but_nothing : (t : Tables) (es : List Entry) (trace : Option (List Post)) (waves : Tally) → Leads act_of others settles t es trace waves
+  pub but_nothing : (t : Tables) (es : List Entry) (trace : Option (List Post)) (waves : Tally) → Leads act_of others settles phase t es trace waves
       → AsksBut (rules_of act_of t.localities t.profile) settles es trace Nothing
-  but_nothing t es trace waves l = asks_whole (rules_at act_of t) settles (IsPassive t) es trace trace waves l.asks
+  but_nothing t es trace waves l = asks_whole (rules_at act_of t) settles phase (IsPassive t) es trace trace waves l.asks
 
   -- a wave was begun, and told to all
   pub leads_told : (t t' : Tables) (es es' : List Entry) (trace trace' : Option (List Post)) (waves waves' : Tally) (number sent taken : ℕ) (body bytes : List ℕ)
-      → Leads act_of others settles t es trace waves → IsPassive t → waits waves ≡ false → Sits act_of t' es' [] trace' → t' ≡ t → es' ≡ es
+      → Leads act_of others settles phase t es trace waves → IsPassive t → waits waves ≡ false → IsDue settles phase → Sits act_of t' es' [] trace'
+      → t' ≡ t → es' ≡ es
       → trace' ≡ followed trace (told_all bytes others) → bytes ≡ body → body ≡ wave_body number → number ≡ waves.begun → sent ≡ t.sent → taken ≡ t.taken
-      → waves' ≡ opened (record { sent = sent; taken = taken }) waves → Leads act_of others settles t' es' trace' waves'
-  leads_told t t' es es' trace trace' waves waves' number sent taken body bytes l passive done sits tables entries told same is number_is sent_is taken_is opens =
+      → waves' ≡ opened (record { sent = sent; taken = taken }) waves → Leads act_of others settles phase t' es' trace' waves'
+  leads_told t t' es es' trace trace' waves waves' number sent taken body bytes l passive done due sits tables entries told same is number_is sent_is taken_is opens =
       leads_same t t' es es' trace' trace' waves'
-      (leads_began t es trace trace' waves waves' l passive done
+      (leads_began t es trace trace' waves waves' l passive done due
       (subst (λ x. Sits act_of x es [] trace') tables (subst (λ xs. Sits act_of t' xs [] trace') entries sits))
       (subst (λ b. trace' ≡ followed trace (told_all b others)) (same ∙ (is ∙ ap wave_body number_is)) told)
       (subst (λ a. waves' ≡ opened (record { sent = a; taken = t.taken }) waves) sent_is
@@ -223,25 +229,26 @@ module _ (act_of : Meaning) (others : ℕ) (settles : Bool) where
 
   -- or to some
   pub left_told : (stop : Stop) (t t' : Tables) (es es' : List Entry) (trace trace' : Option (List Post)) (waves : Tally) (number : ℕ) (body bytes : List ℕ)
-      → Leads act_of others settles t es trace waves → Sits act_of t' es' [] trace' → t' ≡ t → es' ≡ es → ToldSome bytes others trace trace'
-      → bytes ≡ body → body ≡ wave_body number → number ≡ waves.begun → IsOfLink stop → LeadsLeft act_of settles stop t' es' trace'
-  left_told stop t t' es es' trace trace' waves number body bytes l sits tables entries told same is number_is link =
+      → Leads act_of others settles phase t es trace waves → Sits act_of t' es' [] trace' → t' ≡ t → es' ≡ es → ToldSome bytes others trace trace'
+      → bytes ≡ body → body ≡ wave_body number → number ≡ waves.begun → IsDue settles phase → IsOfLink stop → LeadsLeft act_of settles stop t' es' trace'
+  left_told stop t t' es es' trace trace' waves number body bytes l sits tables entries told same is number_is due link =
       left_asking stop t' es' trace trace' waves (leads_same t t' es es' trace trace waves l tables entries refl) sits
-      (subst (λ b. ToldSome b others trace trace') (same ∙ (is ∙ ap wave_body number_is)) told) link
+      (subst (λ b. ToldSome b others trace trace') (same ∙ (is ∙ ap wave_body number_is)) told) due link
 
   -- the end was told to all
-  pub but_ended : (t t' : Tables) (es es' : List Entry) (trace trace' : Option (List Post)) (waves : Tally) → Leads act_of others settles t es trace waves
-      → verdict_of waves ≡ Ended → t' ≡ t → es' ≡ es → trace' ≡ followed trace (told_all end_body others)
+  pub but_ended : (t t' : Tables) (es es' : List Entry) (trace trace' : Option (List Post)) (waves : Tally) → Leads act_of others settles phase t es trace waves
+      → phase ≡ LinesOver → verdict_of waves ≡ Ended → t' ≡ t → es' ≡ es → trace' ≡ followed trace (told_all end_body others)
       → AsksBut (rules_of act_of t'.localities t'.profile) settles es' trace' (Ending others)
-  but_ended t t' es es' trace trace' waves l over tables entries told =
-      but_ending t' es' trace trace' waves (leads_same t t' es es' trace trace waves l tables entries refl) over told
+  but_ended t t' es es' trace trace' waves l closed over tables entries told =
+      but_ending t' es' trace trace' waves (leads_same t t' es es' trace trace waves l tables entries refl) closed over told
 
   -- or to some
   pub left_ended : (stop : Stop) (t t' : Tables) (es es' : List Entry) (trace trace' : Option (List Post)) (waves : Tally)
-      → Leads act_of others settles t es trace waves → verdict_of waves ≡ Ended → Sits act_of t' es' [] trace' → t' ≡ t → es' ≡ es
+      → Leads act_of others settles phase t es trace waves → phase ≡ LinesOver → verdict_of waves ≡ Ended → Sits act_of t' es' [] trace'
+      → t' ≡ t → es' ≡ es
       → ToldSome end_body others trace trace' → IsOfLink stop → LeadsLeft act_of settles stop t' es' trace'
-  left_ended stop t t' es es' trace trace' waves l over sits tables entries told link =
-      left_ending stop t' es' trace trace' waves (leads_same t t' es es' trace trace waves l tables entries refl) over sits told link
+  left_ended stop t t' es es' trace trace' waves l closed over sits tables entries told link =
+      left_ending stop t' es' trace trace' waves (leads_same t t' es es' trace trace waves l tables entries refl) closed over sits told link
 
   -- ---- where nothing is to be done
 
@@ -253,9 +260,37 @@ module _ (act_of : Meaning) (others : ℕ) (settles : Bool) where
       let rest : IsAtRest (rules_at act_of t) t.here es = rests act_of t es sits.stands sits.seated.own ready.passive clean in
       record { quiet = rest.still; answered = sym (waits_for act_of t es sits.stands sits.seated.own clean) ∙ ready.answered })
 
-  pub leads_ready : (t : Tables) (es : List Entry) (trace : Option (List Post)) (waves : Tally) → Leads act_of others settles t es trace waves → IsReady t
+  pub leads_ready : (t : Tables) (es : List Entry) (trace : Option (List Post)) (waves : Tally) → Leads act_of others settles phase t es trace waves → IsReady t
       → IsIdleBehind (rules_of act_of t.localities t.profile) es
   leads_ready t es trace waves l ready = idle_ready t es trace l.here l.sits ready
+
+-- ---- how far the lines are
+
+-- a line may be fed, or the lines be over
+pub goes_on : (settles : Bool) (t : Tally) (phase : Phase) → phase ≡ Serving → waits t ≡ false → (settles ≡ true → verdict_of t ≡ Ended) → MayGoOn settles t phase
+goes_on settles t phase is done ended = subst (MayGoOn settles t) (sym is) (done, ended)
+
+-- a wave is due
+pub due_over : (settles : Bool) (phase : Phase) → phase ≡ LinesOver → IsDue settles phase
+due_over settles phase is = subst (IsDue settles) (sym is) tt
+
+pub due_serving : (settles : Bool) (phase : Phase) → phase ≡ Serving → settles ≡ true → IsDue settles phase
+due_serving settles phase is on = subst (IsDue settles) (sym is) on
+
+pub due_same : (settles settles' : Bool) (phase phase' : Phase) → settles' ≡ settles → phase' ≡ phase → IsDue settles phase → IsDue settles' phase'
+due_same settles settles' phase phase' same is due = subst (λ s. IsDue s phase') (sym same) (subst (IsDue settles) (sym is) due)
+
+-- ---- at the start
+
+pub leads_first : (act_of : Meaning) (others : ℕ) (settles : Bool) (t : Tables) (es : List Entry) (trace : Option (List Post)) (waves : Tally) → t.here ≡ 0 → t.localities ≡ suc others
+    → Sits act_of t es [] trace → es ≡ [] → ((tr : List Post) → trace ≡ Some tr → tr ≡ []) → waves ≡ fresh t.localities
+    → Leads act_of others settles Unfed t es trace waves
+leads_first act_of others settles t es trace waves here members sits none empty is = record {
+  here = here;
+  members = members;
+  sits = sits;
+  asks = asks_first (rules_at act_of t) settles (IsPassive t) es trace waves none empty is;
+}
 
 -- ---- waves
 

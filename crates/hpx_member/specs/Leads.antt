@@ -16,6 +16,7 @@ use Rattle.hpx_member.specs.Serves.{Done, Serves, Stage}
 use Rattle.hpx_member.specs.Stops.{IsCauseBy, IsOther, SitsLeft, fault_of, status_of}
 use Rattle.hpx_member.specs.Bodies.{is_frame}
 use Rattle.hpx_member.specs.Talks.{IsLineCause, Only, Talk}
+use Rattle.hpx_member.specs.declared.console.Phase.{Phase}
 use Rattle.hpx_member.specs.declared.lines.LineFault.{LineFault}
 use Rattle.hpx_member.specs.declared.lines.LineFault.TheVariants as line_faults
 use Rattle.hpx_member.specs.declared.stop.Halt.{Halt}
@@ -27,12 +28,12 @@ use Rattle.hpx_member.specs.declared.stop.Stop.TheVariants.{Link, OutOfMemory, F
 
 -- ---- between calls
 
--- a node at locality 0, beside so many others, stands for its journal, which agrees with the link; and so do the turns of its rounds
-pub record Leads (act_of : Meaning) (others : ℕ) (settles : Bool) (t : Tables) (es : List Entry) (trace : Option (List Post)) (waves : Tally) : Type 0 where
+-- a node at locality 0, beside so many others, stands for its journal, which agrees with the link; and so do the turns of its rounds, where its lines are so far
+pub record Leads (act_of : Meaning) (others : ℕ) (settles : Bool) (phase : Phase) (t : Tables) (es : List Entry) (trace : Option (List Post)) (waves : Tally) : Type 0 where
   pub here : t.here ≡ 0
   pub members : t.localities ≡ suc others
   pub sits : Sits act_of t es [] trace
-  pub asks : Asks (rules_of act_of t.localities t.profile) settles (IsPassive t) es trace waves
+  pub asks : Asks (rules_of act_of t.localities t.profile) settles phase (IsPassive t) es trace waves
 
 -- nothing is to be done, and no answer is awaited
 pub record IsReady (t : Tables) : Type 0 where
@@ -127,7 +128,7 @@ Ends n status fault (Ending some) = ((status ≡ 0) × (n ≡ suc some)) ⊎ ((s
 Ends n status fault (Refused from body) = (status ≡ 8) × (fault ≡ Some (OutOfPlace from))
 
 -- What a console has asked of the others. Its turns are in order, its own numbers are those of its journal, and the words on its link, where that
--- tells, are those of its turns. The end is told only behind a round that has ended, and at status 0 to all.
+-- tells, are those of its turns. The end is told only behind a round that was begun once the lines were over and has ended, and at status 0 to all.
 pub record HasAsked (r : Rules) (settles : Bool) (status : ℕ) (fault : Option MemberFault) (es : List Entry) (trace : Option (List Post)) : Type 0 where
   pub last : Last
   pub asked : AsksBut r settles es trace last

@@ -1,6 +1,6 @@
 -- The rounds of waves of a console, and the lines that it is fed between them.
 use Rattle.std.specs.Int.{to_be_bytes, w32}
-use Rattle.std.specs.Prelude.{ℕ, zero, suc, Bool, true, false, cond, List, [], ◌∷◌, ◌++◌, ◌≡◌, ◌≤◌, ◌<◌, ◌⊎◌, Option, Some, length, take}
+use Rattle.std.specs.Prelude.{ℕ, zero, suc, Bool, true, false, cond, List, [], ◌∷◌, ◌++◌, ◌≡◌, ◌≤◌, ◌<◌, Option, Some, length, take}
 use Rattle.std.specs.List.{flat_map}
 use Rattle.hpx_journal.specs.Entries.{Rules}
 use Rattle.hpx_journal.specs.Laws.{outs, ins}
@@ -16,6 +16,8 @@ use Rattle.hpx_ports.specs.declared.link.Post.{Post}
 use Rattle.hpx_ports.specs.declared.link.Post.TheVariants.{Sent, Received}
 use Rattle.hpx_member.specs.Bodies.{counts_of, end_body, frames_got, frames_sent, is_frame}
 use Rattle.hpx_member.specs.declared.bodies.Told.{Told}
+use Rattle.hpx_member.specs.declared.console.Phase.{Phase}
+use Rattle.hpx_member.specs.declared.console.Phase.TheVariants.{Unfed, Serving, LinesOver}
 
 -- ---- words of control
 
@@ -44,34 +46,50 @@ words tr = flat_map word_by tr
 -- ---- what a console does
 
 -- A line was fed, behind so many entries. A wave was begun with these numbers of the console's own, behind so many posts and entries. A body of Counts
--- was taken from a member. Or the round began anew.
+-- was taken from a member. The round began anew. Or it did so as the lines were over.
 pub data Turn : Type 0 where
   Fed : (entries : ℕ) → Turn
   Began : (posts entries : ℕ) (numbers : Counted) → Turn
   Took : (from : ℕ) (body : List ℕ) (told : Told) → Turn
   Anew : Turn
+  Closed : Turn
 
--- the waves of the last round as they stand behind turns, the newest first: a line ends a round
+-- the waves of the last round as they stand behind turns, the newest first: a line ends a round, and so does the end of the lines
 abbrev pub tally_of : ℕ → List Turn → Tally
 tally_of n [] = fresh n
 tally_of n (Fed e ∷ earlier) = fresh n
 tally_of n (Began p e x ∷ earlier) = opened x (tally_of n earlier)
 tally_of n (Took from body c ∷ earlier) = counted from (record { sent = c.sent; taken = c.taken }) (tally_of n earlier)
 tally_of n (Anew ∷ earlier) = fresh n
+tally_of n (Closed ∷ earlier) = fresh n
 
--- no line was fed
-abbrev pub IsUnfed : List Turn → Type 0
-IsUnfed [] = Unit {0}
-IsUnfed (Fed e ∷ earlier) = ⊥
-IsUnfed (_ ∷ earlier) = IsUnfed earlier
+-- how far the lines are behind turns
+abbrev pub phase_of : List Turn → Phase
+phase_of [] = Unfed
+phase_of (Fed e ∷ earlier) = Serving
+phase_of (Closed ∷ earlier) = LinesOver
+phase_of (_ ∷ earlier) = phase_of earlier
 
--- a turn may come where the waves of earlier turns stand so: a line or a wave where no answer is missing, Counts in answer to the wave that waits; where it
--- is so set, each line but the first is fed where a round has ended since the one before
+-- a wave is due: the lines are over, or it is so set and one was fed
+abbrev pub IsDue : Bool → Phase → Type 0
+IsDue settles Unfed = ⊥
+IsDue settles Serving = settles ≡ true
+IsDue settles LinesOver = Unit {0}
+
+-- a line may be fed, or the lines be over: they were not over before, and no answer is missing; where it is so set, a round has ended since the line before
+abbrev pub MayGoOn : Bool → Tally → Phase → Type 0
+MayGoOn settles t Unfed = waits t ≡ false
+MayGoOn settles t Serving = (waits t ≡ false) × (settles ≡ true → verdict_of t ≡ Ended)
+MayGoOn settles t LinesOver = ⊥
+
+-- a turn may come where the waves of earlier turns stand so: a wave where one is due and no answer is missing, Counts in answer to the wave that waits,
+-- and Anew where no wave has a number any more
 abbrev pub MayFollow : Bool → Tally → List Turn → Turn → Type 0
-MayFollow settles t earlier (Fed e) = (waits t ≡ false) × (settles ≡ true → IsUnfed earlier ⊎ (verdict_of t ≡ Ended))
-MayFollow settles t earlier (Began p e x) = waits t ≡ false
+MayFollow settles t earlier (Fed e) = MayGoOn settles t (phase_of earlier)
+MayFollow settles t earlier (Began p e x) = (waits t ≡ false) × IsDue settles (phase_of earlier)
 MayFollow settles t earlier (Took from body c) = (counts_of body ≡ Some c) × MayCount t from c.wave
-MayFollow settles t earlier Anew = waits t ≡ false
+MayFollow settles t earlier Anew = (waits t ≡ false) × (t.begun ≡ 4294967295)
+MayFollow settles t earlier Closed = MayGoOn settles t (phase_of earlier)
 
 -- all did
 abbrev pub AreInOrder : ℕ → Bool → List Turn → Type 0
@@ -94,6 +112,7 @@ IsBehind (Fed e ∷ earlier) n = e < n
 IsBehind (Began p e x ∷ earlier) n = e ≤ n
 IsBehind (Took from body c ∷ earlier) n = IsBehind earlier n
 IsBehind (Anew ∷ earlier) n = IsBehind earlier n
+IsBehind (Closed ∷ earlier) n = IsBehind earlier n
 
 -- turns stand in the order of the entries, and the numbers of each wave are the console's own
 abbrev pub AreOwn : Rules → List Entry → List Turn → Type 0
@@ -102,6 +121,7 @@ AreOwn r es (Fed e ∷ earlier) = (e < length es) × IsBehind earlier e × AreOw
 AreOwn r es (Began p e x ∷ earlier) = IsOwnAt r es e x × IsBehind earlier e × AreOwn r es earlier
 AreOwn r es (Took from body c ∷ earlier) = AreOwn r es earlier
 AreOwn r es (Anew ∷ earlier) = AreOwn r es earlier
+AreOwn r es (Closed ∷ earlier) = AreOwn r es earlier
 
 -- where an event stands, if it is a line
 abbrev pub line_at : ℕ → Event → List ℕ
@@ -120,6 +140,7 @@ fed_at (Fed e ∷ earlier) = e ∷ fed_at earlier
 fed_at (Began p e x ∷ earlier) = fed_at earlier
 fed_at (Took from body c ∷ earlier) = fed_at earlier
 fed_at (Anew ∷ earlier) = fed_at earlier
+fed_at (Closed ∷ earlier) = fed_at earlier
 
 -- turns in order, by this journal, whose lines they are
 pub record IsCourse (r : Rules) (settles : Bool) (es : List Entry) (turns : List Turn) : Type 0 where
@@ -135,6 +156,7 @@ posts_by n t (Fed e) = []
 posts_by n t (Began p e x) = told_others (wave_body t.begun) n
 posts_by n t (Took from body c) = Received from body ∷ []
 posts_by n t Anew = []
+posts_by n t Closed = []
 
 -- all words of turns
 abbrev pub said : ℕ → List Turn → List Post
@@ -155,6 +177,7 @@ AreCounted n tr (Fed e ∷ earlier) = AreCounted n tr earlier
 AreCounted n tr (Began p e x ∷ earlier) = IsCountedAt tr (said n earlier) p x × AreCounted n tr earlier
 AreCounted n tr (Took from body c ∷ earlier) = AreCounted n tr earlier
 AreCounted n tr (Anew ∷ earlier) = AreCounted n tr earlier
+AreCounted n tr (Closed ∷ earlier) = AreCounted n tr earlier
 
 -- the words on a link are those of turns
 pub record IsTold (n : ℕ) (turns : List Turn) (tr : List Post) : Type 0 where
@@ -175,12 +198,14 @@ IsStillBehind (Fed e ∷ earlier) n idle = Unit {0}
 IsStillBehind (Began p e x ∷ earlier) n idle = n ≤ e → idle
 IsStillBehind (Took from body c ∷ earlier) n idle = IsStillBehind earlier n idle
 IsStillBehind (Anew ∷ earlier) n idle = IsStillBehind earlier n idle
+IsStillBehind (Closed ∷ earlier) n idle = IsStillBehind earlier n idle
 
--- a console had such turns, and its waves stand so
-pub record Asks (r : Rules) (settles : Bool) (idle : Type 0) (es : List Entry) (trace : Option (List Post)) (t : Tally) : Type 0 where
+-- a console had such turns, its lines are so far, and its waves stand so
+pub record Asks (r : Rules) (settles : Bool) (phase : Phase) (idle : Type 0) (es : List Entry) (trace : Option (List Post)) (t : Tally) : Type 0 where
   pub turns : List Turn
   pub asked : IsAsked r settles es trace turns
   pub still : IsStillBehind turns (length es) idle
+  pub far : phase ≡ phase_of turns
   pub is : t ≡ tally_of r.localities turns
 
 -- ---- where it ends
@@ -210,12 +235,12 @@ pub record TakesCounts (from : ℕ) (body : List ℕ) (t t' : Tally) : Type 0 wh
   pub may : MayCount t from told.wave
   pub is : t' ≡ counted from (record { sent = told.sent; taken = told.taken }) t
 
--- it comes behind these turns: the end only behind a round that has ended
-abbrev pub Closes : ℕ → List Turn → Last → Type 0
-Closes n turns Nothing = Unit {0}
-Closes n turns (Asking wave some) = (wave ≡ (tally_of n turns).begun) × (some < n)
-Closes n turns (Ending some) = (verdict_of (tally_of n turns) ≡ Ended) × (some < n)
-Closes n turns (Refused from body) = IsUnasked (tally_of n turns) from body
+-- it comes behind these turns: a wave only where one is due; the end only where the lines are over, and the round that began then has ended
+abbrev pub Closes : ℕ → Bool → List Turn → Last → Type 0
+Closes n settles turns Nothing = Unit {0}
+Closes n settles turns (Asking wave some) = IsDue settles (phase_of turns) × (wave ≡ (tally_of n turns).begun) × (some < n)
+Closes n settles turns (Ending some) = (phase_of turns ≡ LinesOver) × (verdict_of (tally_of n turns) ≡ Ended) × (some < n)
+Closes n settles turns (Refused from body) = IsUnasked (tally_of n turns) from body
 
 -- turns of a console, and what came behind them
 pub record AsksBut (r : Rules) (settles : Bool) (es : List Entry) (trace : Option (List Post)) (last : Last) : Type 0 where
@@ -223,4 +248,4 @@ pub record AsksBut (r : Rules) (settles : Bool) (es : List Entry) (trace : Optio
   pub is : trace ≡ followed earlier (posts_in last)
   pub turns : List Turn
   pub asked : IsAsked r settles es earlier turns
-  pub closes : Closes r.localities turns last
+  pub closes : Closes r.localities settles turns last

@@ -11,7 +11,8 @@ ghost use Rattle.hpx_ports.specs.declared.link.Post.{Post};
 ghost use Rattle.hpx_member.specs.Bodies.{is_frame};
 ghost use Rattle.hpx_member.specs.Feeding.{AddsNoLine, FeedsAtMost, FeedsLine};
 ghost use Rattle.hpx_member.specs.Leads.{HaltsLeft, HasAsked, HasLineCause, HasServed, IsConsolesStatus, IsHaltCause, IsNoFrame, IsReady, Leads, LeadsLeft, Saying};
-ghost use Rattle.hpx_member.specs.Rounds.{Ending, AsksBut, IsUnasked, TakesCounts};
+ghost use Rattle.hpx_member.specs.Rounds.{Ending, AsksBut, IsDue, IsUnasked, MayGoOn, TakesCounts};
+ghost use Rattle.hpx_member.specs.declared.console.Phase.TheVariants.{LinesOver, Serving};
 ghost use Rattle.hpx_member.specs.Seats.{IsNodeAt, IsPart, IsSameSite, Sits, Tells};
 ghost use Rattle.hpx_member.specs.Serves.{Asking, Done, IsIdleBehind, IsOver, Serves, Stage};
 ghost use Rattle.hpx_member.specs.Stops.{IsCauseBy, IsFaultBy, status_of_fault};
@@ -48,6 +49,17 @@ fn count(waves: &mut Waves, from: u32, body: &[u8]) -> bool
     }
 }
 
+/// How far the lines of a console are.
+#[derive(Clone, Copy, Debug, PartialEq, Eq)]
+enum Phase {
+    /// None was fed.
+    Unfed,
+    /// One was, and there may be more.
+    Serving,
+    /// There are no more.
+    LinesOver,
+}
+
 /// The member at locality 0, beside so many others, and the waves of its round. `settles` says whether a round is to end before each
 /// line but the first.
 #[derive(Drop)]
@@ -56,16 +68,17 @@ struct ConsoleSeat<A: Acts + Copy, L: Link + Drop> {
     waves: Waves,
     others: u32,
     settles: bool,
+    phase: Phase,
 }
 
 impl<A: Acts + Copy, L: Link + Drop> ConsoleSeat<A, L> {
     /// Waits for a body: a frame is accepted, and Counts are counted.
     fn hear(&mut self, alloc: Global) -> Result<(), Stop>
         requires room { HasRoom self.old.seat.book.entries }
-        requires leads { Leads A.act_of self.old.others self.old.settles self.old.seat.node.tables self.old.seat.book.entries (L.trace self.old.seat.link) self.old.waves }
-        ensures leads { OnOk result (Leads A.act_of self.new.others self.new.settles self.new.seat.node.tables self.new.seat.book.entries (L.trace self.new.seat.link) self.new.waves) }
+        requires leads { Leads A.act_of self.old.others self.old.settles self.old.phase self.old.seat.node.tables self.old.seat.book.entries (L.trace self.old.seat.link) self.old.waves }
+        ensures leads { OnOk result (Leads A.act_of self.new.others self.new.settles self.new.phase self.new.seat.node.tables self.new.seat.book.entries (L.trace self.new.seat.link) self.new.waves) }
         ensures left { IfErr result (λ stop. LeadsLeft A.act_of self.new.settles stop self.new.seat.node.tables self.new.seat.book.entries (L.trace self.new.seat.link)) }
-        ensures same { (self.new.others ≡ self.old.others) × (self.new.settles ≡ self.old.settles) }
+        ensures same { (self.new.others ≡ self.old.others) × (self.new.settles ≡ self.old.settles) × (self.new.phase ≡ self.old.phase) }
         ensures site { IsSameSite self.old.seat.node.tables self.new.seat.node.tables }
         ensures unfed { AddsNoLine self.old.seat.book.entries self.new.seat.book.entries }
         ensures waves { waits self.old.waves ≡ false → OnOk result (self.new.waves ≡ self.old.waves) }
@@ -88,12 +101,12 @@ impl<A: Acts + Copy, L: Link + Drop> ConsoleSeat<A, L> {
 
     /// One step of its own, or else it waits for a body. True where nothing is to be done, and no answer is awaited.
     fn step(&mut self, alloc: Global) -> Result<bool, Stop>
-        requires leads { Leads A.act_of self.old.others self.old.settles self.old.seat.node.tables self.old.seat.book.entries (L.trace self.old.seat.link) self.old.waves }
-        ensures leads { OnOk result (Leads A.act_of self.new.others self.new.settles self.new.seat.node.tables self.new.seat.book.entries (L.trace self.new.seat.link) self.new.waves) }
+        requires leads { Leads A.act_of self.old.others self.old.settles self.old.phase self.old.seat.node.tables self.old.seat.book.entries (L.trace self.old.seat.link) self.old.waves }
+        ensures leads { OnOk result (Leads A.act_of self.new.others self.new.settles self.new.phase self.new.seat.node.tables self.new.seat.book.entries (L.trace self.new.seat.link) self.new.waves) }
         ensures ready { result ≡ Ok true → IsReady self.new.seat.node.tables }
         ensures room { result ≡ Ok true → HasRoom self.new.seat.book.entries }
         ensures left { IfErr result (λ stop. LeadsLeft A.act_of self.new.settles stop self.new.seat.node.tables self.new.seat.book.entries (L.trace self.new.seat.link)) }
-        ensures same { (self.new.others ≡ self.old.others) × (self.new.settles ≡ self.old.settles) }
+        ensures same { (self.new.others ≡ self.old.others) × (self.new.settles ≡ self.old.settles) × (self.new.phase ≡ self.old.phase) }
         ensures site { IsSameSite self.old.seat.node.tables self.new.seat.node.tables }
         ensures unfed { AddsNoLine self.old.seat.book.entries self.new.seat.book.entries }
         ensures waves { waits self.old.waves ≡ false → OnOk result (self.new.waves ≡ self.old.waves) }
@@ -116,12 +129,12 @@ impl<A: Acts + Copy, L: Link + Drop> ConsoleSeat<A, L> {
 
     /// It goes on until nothing is to be done here, and no answer is awaited.
     fn settle<R: Wait>(&mut self, rt: &R, alloc: Global) -> Result<(), Stop>
-        requires leads { Leads A.act_of self.old.others self.old.settles self.old.seat.node.tables self.old.seat.book.entries (L.trace self.old.seat.link) self.old.waves }
-        ensures leads { OnOk result (Leads A.act_of self.new.others self.new.settles self.new.seat.node.tables self.new.seat.book.entries (L.trace self.new.seat.link) self.new.waves) }
+        requires leads { Leads A.act_of self.old.others self.old.settles self.old.phase self.old.seat.node.tables self.old.seat.book.entries (L.trace self.old.seat.link) self.old.waves }
+        ensures leads { OnOk result (Leads A.act_of self.new.others self.new.settles self.new.phase self.new.seat.node.tables self.new.seat.book.entries (L.trace self.new.seat.link) self.new.waves) }
         ensures ready { OnOk result (IsReady self.new.seat.node.tables) }
         ensures room { OnOk result (HasRoom self.new.seat.book.entries) }
         ensures left { IfErr result (λ stop. LeadsLeft A.act_of self.new.settles stop self.new.seat.node.tables self.new.seat.book.entries (L.trace self.new.seat.link)) }
-        ensures same { (self.new.others ≡ self.old.others) × (self.new.settles ≡ self.old.settles) }
+        ensures same { (self.new.others ≡ self.old.others) × (self.new.settles ≡ self.old.settles) × (self.new.phase ≡ self.old.phase) }
         ensures site { IsSameSite self.old.seat.node.tables self.new.seat.node.tables }
         ensures unfed { AddsNoLine self.old.seat.book.entries self.new.seat.book.entries }
         ensures waves { waits self.old.waves ≡ false → OnOk result (self.new.waves ≡ self.old.waves) }
@@ -141,14 +154,14 @@ impl<A: Acts + Copy, L: Link + Drop> ConsoleSeat<A, L> {
     /// Begins the round anew where no wave has a number any more.
     fn renew(&mut self)
         requires done { waits self.old.waves ≡ false }
-        requires leads { Leads A.act_of self.old.others self.old.settles self.old.seat.node.tables self.old.seat.book.entries (L.trace self.old.seat.link) self.old.waves }
-        ensures leads { (Leads A.act_of self.new.others self.new.settles self.new.seat.node.tables self.new.seat.book.entries (L.trace self.new.seat.link) self.new.waves) }
+        requires leads { Leads A.act_of self.old.others self.old.settles self.old.phase self.old.seat.node.tables self.old.seat.book.entries (L.trace self.old.seat.link) self.old.waves }
+        ensures leads { (Leads A.act_of self.new.others self.new.settles self.new.phase self.new.seat.node.tables self.new.seat.book.entries (L.trace self.new.seat.link) self.new.waves) }
         ensures done { waits self.new.waves ≡ false }
         ensures more { self.new.waves.begun < 4294967295 }
         ensures node { self.new.seat.node ≡ self.old.seat.node }
         ensures book { self.new.seat.book ≡ self.old.seat.book }
         ensures link { self.new.seat.link ≡ self.old.seat.link }
-        ensures same { (self.new.others ≡ self.old.others) × (self.new.settles ≡ self.old.settles) }
+        ensures same { (self.new.others ≡ self.old.others) × (self.new.settles ≡ self.old.settles) × (self.new.phase ≡ self.old.phase) }
     {
         if self.waves.begun() == u32::MAX {
             self.waves.restart();
@@ -159,12 +172,13 @@ impl<A: Acts + Copy, L: Link + Drop> ConsoleSeat<A, L> {
     fn begin(&mut self, alloc: Global) -> Result<(), Stop>
         requires passive { IsPassive self.old.seat.node.tables }
         requires done { waits self.old.waves ≡ false }
-        requires leads { Leads A.act_of self.old.others self.old.settles self.old.seat.node.tables self.old.seat.book.entries (L.trace self.old.seat.link) self.old.waves }
-        ensures leads { OnOk result (Leads A.act_of self.new.others self.new.settles self.new.seat.node.tables self.new.seat.book.entries (L.trace self.new.seat.link) self.new.waves) }
+        requires due { IsDue self.old.settles self.old.phase }
+        requires leads { Leads A.act_of self.old.others self.old.settles self.old.phase self.old.seat.node.tables self.old.seat.book.entries (L.trace self.old.seat.link) self.old.waves }
+        ensures leads { OnOk result (Leads A.act_of self.new.others self.new.settles self.new.phase self.new.seat.node.tables self.new.seat.book.entries (L.trace self.new.seat.link) self.new.waves) }
         ensures left { IfErr result (λ stop. LeadsLeft A.act_of self.new.settles stop self.new.seat.node.tables self.new.seat.book.entries (L.trace self.new.seat.link)) }
         ensures node { self.new.seat.node ≡ self.old.seat.node }
         ensures book { self.new.seat.book ≡ self.old.seat.book }
-        ensures same { (self.new.others ≡ self.old.others) × (self.new.settles ≡ self.old.settles) }
+        ensures same { (self.new.others ≡ self.old.others) × (self.new.settles ≡ self.old.settles) × (self.new.phase ≡ self.old.phase) }
         ensures calm { OnOk result (L.faults self.new.seat.link ≡ L.faults self.old.seat.link) }
         ensures stops { IfErr result (IsCauseBy IsNoFrame self.new.seat.node.tables self.new.seat.book.entries (L.latest self.new.seat.link) (L.faults self.old.seat.link) (L.faults self.new.seat.link)) }
     {
@@ -183,12 +197,13 @@ impl<A: Acts + Copy, L: Link + Drop> ConsoleSeat<A, L> {
 
     /// Comes to rest, and goes on with the round: the next wave, where all have answered. True where the round has ended.
     fn advance<R: Wait>(&mut self, rt: &R, alloc: Global) -> Result<bool, Stop>
-        requires leads { Leads A.act_of self.old.others self.old.settles self.old.seat.node.tables self.old.seat.book.entries (L.trace self.old.seat.link) self.old.waves }
-        ensures leads { OnOk result (Leads A.act_of self.new.others self.new.settles self.new.seat.node.tables self.new.seat.book.entries (L.trace self.new.seat.link) self.new.waves) }
+        requires due { IsDue self.old.settles self.old.phase }
+        requires leads { Leads A.act_of self.old.others self.old.settles self.old.phase self.old.seat.node.tables self.old.seat.book.entries (L.trace self.old.seat.link) self.old.waves }
+        ensures leads { OnOk result (Leads A.act_of self.new.others self.new.settles self.new.phase self.new.seat.node.tables self.new.seat.book.entries (L.trace self.new.seat.link) self.new.waves) }
         ensures ended { result ≡ Ok true → verdict_of self.new.waves ≡ Ended }
         ensures ready { result ≡ Ok true → IsReady self.new.seat.node.tables }
         ensures left { IfErr result (λ stop. LeadsLeft A.act_of self.new.settles stop self.new.seat.node.tables self.new.seat.book.entries (L.trace self.new.seat.link)) }
-        ensures same { (self.new.others ≡ self.old.others) × (self.new.settles ≡ self.old.settles) }
+        ensures same { (self.new.others ≡ self.old.others) × (self.new.settles ≡ self.old.settles) × (self.new.phase ≡ self.old.phase) }
         ensures site { IsSameSite self.old.seat.node.tables self.new.seat.node.tables }
         ensures unfed { AddsNoLine self.old.seat.book.entries self.new.seat.book.entries }
         ensures calm { OnOk result (L.faults self.new.seat.link ≡ L.faults self.old.seat.link) }
@@ -213,12 +228,13 @@ impl<A: Acts + Copy, L: Link + Drop> ConsoleSeat<A, L> {
 
     /// Waves until a round has ended: all that was sent by the last had been accepted by the one before.
     fn round<R: Wait>(&mut self, rt: &R, alloc: Global) -> Result<(), Stop>
-        requires leads { Leads A.act_of self.old.others self.old.settles self.old.seat.node.tables self.old.seat.book.entries (L.trace self.old.seat.link) self.old.waves }
-        ensures leads { OnOk result (Leads A.act_of self.new.others self.new.settles self.new.seat.node.tables self.new.seat.book.entries (L.trace self.new.seat.link) self.new.waves) }
+        requires due { IsDue self.old.settles self.old.phase }
+        requires leads { Leads A.act_of self.old.others self.old.settles self.old.phase self.old.seat.node.tables self.old.seat.book.entries (L.trace self.old.seat.link) self.old.waves }
+        ensures leads { OnOk result (Leads A.act_of self.new.others self.new.settles self.new.phase self.new.seat.node.tables self.new.seat.book.entries (L.trace self.new.seat.link) self.new.waves) }
         ensures ended { OnOk result (verdict_of self.new.waves ≡ Ended) }
         ensures ready { OnOk result (IsReady self.new.seat.node.tables) }
         ensures left { IfErr result (λ stop. LeadsLeft A.act_of self.new.settles stop self.new.seat.node.tables self.new.seat.book.entries (L.trace self.new.seat.link)) }
-        ensures same { (self.new.others ≡ self.old.others) × (self.new.settles ≡ self.old.settles) }
+        ensures same { (self.new.others ≡ self.old.others) × (self.new.settles ≡ self.old.settles) × (self.new.phase ≡ self.old.phase) }
         ensures site { IsSameSite self.old.seat.node.tables self.new.seat.node.tables }
         ensures unfed { AddsNoLine self.old.seat.book.entries self.new.seat.book.entries }
         ensures calm { OnOk result (L.faults self.new.seat.link ≡ L.faults self.old.seat.link) }
@@ -238,16 +254,16 @@ impl<A: Acts + Copy, L: Link + Drop> ConsoleSeat<A, L> {
     fn feed(&mut self, alloc: Global, line: Text) -> Result<(), Stop>
         requires short { length line ≤ 1025 }
         requires ready { IsReady self.old.seat.node.tables }
-        requires done { waits self.old.waves ≡ false }
-        requires settled { self.old.settles ≡ true → (self.old.seat.book.entries ≡ []) ⊎ (verdict_of self.old.waves ≡ Ended) }
-        requires leads { Leads A.act_of self.old.others self.old.settles self.old.seat.node.tables self.old.seat.book.entries (L.trace self.old.seat.link) self.old.waves }
-        ensures leads { OnOk result (Leads A.act_of self.new.others self.new.settles self.new.seat.node.tables self.new.seat.book.entries (L.trace self.new.seat.link) self.new.waves) }
+        requires next { MayGoOn self.old.settles self.old.waves self.old.phase }
+        requires leads { Leads A.act_of self.old.others self.old.settles self.old.phase self.old.seat.node.tables self.old.seat.book.entries (L.trace self.old.seat.link) self.old.waves }
+        ensures leads { OnOk result (Leads A.act_of self.new.others self.new.settles self.new.phase self.new.seat.node.tables self.new.seat.book.entries (L.trace self.new.seat.link) self.new.waves) }
         ensures fed { OnOk result (FeedsLine line self.old.seat.book.entries self.new.seat.book.entries) }
         ensures unfed { OnErr result (self.new.seat.book.entries ≡ self.old.seat.book.entries) }
-        ensures done { waits self.new.waves ≡ false }
+        ensures done { OnOk result (waits self.new.waves ≡ false) }
         ensures link { self.new.seat.link ≡ self.old.seat.link }
         ensures left { IfErr result (λ stop. LeadsLeft A.act_of self.new.settles stop self.new.seat.node.tables self.new.seat.book.entries (L.trace self.new.seat.link)) }
         ensures same { (self.new.others ≡ self.old.others) × (self.new.settles ≡ self.old.settles) }
+        ensures phase { OnOk result (self.new.phase ≡ Serving) }
         ensures site { IsSameSite self.old.seat.node.tables self.new.seat.node.tables }
         ensures stops { IfErr result (IsCauseBy IsNoFrame self.new.seat.node.tables self.new.seat.book.entries (L.latest self.new.seat.link) (L.faults self.old.seat.link) (L.faults self.new.seat.link)) }
     {
@@ -256,6 +272,7 @@ impl<A: Acts + Copy, L: Link + Drop> ConsoleSeat<A, L> {
         }
         match self.seat.node.feed(alloc, &mut self.seat.book, line) {
             Ok(()) => {
+                self.phase = Phase::Serving;
                 self.waves.restart();
                 Ok(())
             }
@@ -267,13 +284,11 @@ impl<A: Acts + Copy, L: Link + Drop> ConsoleSeat<A, L> {
     fn answer<R: Wait>(&mut self, rt: &R, alloc: Global, line: Text) -> Result<(), Stop>
         requires short { length line ≤ 1025 }
         requires ready { IsReady self.old.seat.node.tables }
-        requires done { waits self.old.waves ≡ false }
-        requires settled { self.old.settles ≡ true → (self.old.seat.book.entries ≡ []) ⊎ (verdict_of self.old.waves ≡ Ended) }
-        requires leads { Leads A.act_of self.old.others self.old.settles self.old.seat.node.tables self.old.seat.book.entries (L.trace self.old.seat.link) self.old.waves }
-        ensures leads { OnOk result (Leads A.act_of self.new.others self.new.settles self.new.seat.node.tables self.new.seat.book.entries (L.trace self.new.seat.link) self.new.waves) }
+        requires next { MayGoOn self.old.settles self.old.waves self.old.phase }
+        requires leads { Leads A.act_of self.old.others self.old.settles self.old.phase self.old.seat.node.tables self.old.seat.book.entries (L.trace self.old.seat.link) self.old.waves }
+        ensures leads { OnOk result (Leads A.act_of self.new.others self.new.settles self.new.phase self.new.seat.node.tables self.new.seat.book.entries (L.trace self.new.seat.link) self.new.waves) }
         ensures ready { OnOk result (IsReady self.new.seat.node.tables) }
-        ensures done { OnOk result (waits self.new.waves ≡ false) }
-        ensures settled { OnOk result (self.new.settles ≡ true → verdict_of self.new.waves ≡ Ended) }
+        ensures next { OnOk result (MayGoOn self.new.settles self.new.waves self.new.phase) }
         ensures fed { OnOk result (FeedsLine line self.old.seat.book.entries self.new.seat.book.entries) }
         ensures most { FeedsAtMost line self.old.seat.book.entries self.new.seat.book.entries }
         ensures left { IfErr result (λ stop. LeadsLeft A.act_of self.new.settles stop self.new.seat.node.tables self.new.seat.book.entries (L.trace self.new.seat.link)) }
@@ -307,13 +322,11 @@ impl<A: Acts + Copy, L: Link + Drop> ConsoleSeat<A, L> {
         lines: &mut I,
     ) -> Result<bool, Halt>
         requires ready { IsReady self.old.seat.node.tables }
-        requires done { waits self.old.waves ≡ false }
-        requires settled { self.old.settles ≡ true → (self.old.seat.book.entries ≡ []) ⊎ (verdict_of self.old.waves ≡ Ended) }
-        requires leads { Leads A.act_of self.old.others self.old.settles self.old.seat.node.tables self.old.seat.book.entries (L.trace self.old.seat.link) self.old.waves }
-        ensures leads { OnOk result (Leads A.act_of self.new.others self.new.settles self.new.seat.node.tables self.new.seat.book.entries (L.trace self.new.seat.link) self.new.waves) }
+        requires next { MayGoOn self.old.settles self.old.waves self.old.phase }
+        requires leads { Leads A.act_of self.old.others self.old.settles self.old.phase self.old.seat.node.tables self.old.seat.book.entries (L.trace self.old.seat.link) self.old.waves }
+        ensures leads { OnOk result (Leads A.act_of self.new.others self.new.settles self.new.phase self.new.seat.node.tables self.new.seat.book.entries (L.trace self.new.seat.link) self.new.waves) }
         ensures ready { OnOk result (IsReady self.new.seat.node.tables) }
-        ensures done { OnOk result (waits self.new.waves ≡ false) }
-        ensures settled { OnOk result (self.new.settles ≡ true → (self.new.seat.book.entries ≡ []) ⊎ (verdict_of self.new.waves ≡ Ended)) }
+        ensures next { OnOk result (MayGoOn self.new.settles self.new.waves self.new.phase) }
         ensures serves { (first : _) → Serves (rules_of A.act_of self.old.seat.node.tables.localities self.old.seat.node.tables.profile) self.old.seat.book.entries (Only (I.went first lines.old)) Asking →
             result ≡ Ok true → Serves (rules_of A.act_of self.new.seat.node.tables.localities self.new.seat.node.tables.profile) self.new.seat.book.entries (Only (I.went first lines.new)) Asking }
         ensures over { (first : _) → Serves (rules_of A.act_of self.old.seat.node.tables.localities self.old.seat.node.tables.profile) self.old.seat.book.entries (Only (I.went first lines.old)) Asking →
@@ -346,10 +359,10 @@ impl<A: Acts + Copy, L: Link + Drop> ConsoleSeat<A, L> {
     /// Serves lines until they are over.
     fn serve<R: Wait, I: Lines>(&mut self, rt: &R, alloc: Global, lines: &mut I) -> Result<(), Halt>
         requires ready { IsReady self.old.seat.node.tables }
-        requires done { waits self.old.waves ≡ false }
-        requires settled { self.old.settles ≡ true → (self.old.seat.book.entries ≡ []) ⊎ (verdict_of self.old.waves ≡ Ended) }
-        requires leads { Leads A.act_of self.old.others self.old.settles self.old.seat.node.tables self.old.seat.book.entries (L.trace self.old.seat.link) self.old.waves }
-        ensures leads { OnOk result (Leads A.act_of self.new.others self.new.settles self.new.seat.node.tables self.new.seat.book.entries (L.trace self.new.seat.link) self.new.waves) }
+        requires next { MayGoOn self.old.settles self.old.waves self.old.phase }
+        requires leads { Leads A.act_of self.old.others self.old.settles self.old.phase self.old.seat.node.tables self.old.seat.book.entries (L.trace self.old.seat.link) self.old.waves }
+        ensures leads { OnOk result (Leads A.act_of self.new.others self.new.settles self.new.phase self.new.seat.node.tables self.new.seat.book.entries (L.trace self.new.seat.link) self.new.waves) }
+        ensures next { OnOk result (MayGoOn self.new.settles self.new.waves self.new.phase) }
         ensures over { (first : _) → Serves (rules_of A.act_of self.old.seat.node.tables.localities self.old.seat.node.tables.profile) self.old.seat.book.entries (Only (I.went first lines.old)) Asking →
             OnOk result (IsOver (rules_of A.act_of self.new.seat.node.tables.localities self.new.seat.node.tables.profile) self.new.seat.book.entries (I.went first lines.new)) }
         ensures broken { (first : _) → Serves (rules_of A.act_of self.old.seat.node.tables.localities self.old.seat.node.tables.profile) self.old.seat.book.entries (Only (I.went first lines.old)) Asking →
@@ -371,11 +384,14 @@ impl<A: Acts + Copy, L: Link + Drop> ConsoleSeat<A, L> {
         unreachable!()
     }
 
-    /// Waves until the last round has ended, and shows what was written.
+    /// The lines are over: the last round begins, and where it has ended, what was written is shown.
+    #[tactic(auto, using(crate::proofs::Led::leads_closed))]
     fn close<R: Wait, I: Lines>(&mut self, rt: &R, alloc: Global, lines: &mut I) -> Result<(), Halt>
-        requires leads { Leads A.act_of self.old.others self.old.settles self.old.seat.node.tables self.old.seat.book.entries (L.trace self.old.seat.link) self.old.waves }
-        ensures leads { OnOk result (Leads A.act_of self.new.others self.new.settles self.new.seat.node.tables self.new.seat.book.entries (L.trace self.new.seat.link) self.new.waves) }
+        requires next { MayGoOn self.old.settles self.old.waves self.old.phase }
+        requires leads { Leads A.act_of self.old.others self.old.settles self.old.phase self.old.seat.node.tables self.old.seat.book.entries (L.trace self.old.seat.link) self.old.waves }
+        ensures leads { OnOk result (Leads A.act_of self.new.others self.new.settles self.new.phase self.new.seat.node.tables self.new.seat.book.entries (L.trace self.new.seat.link) self.new.waves) }
         ensures ready { OnOk result (IsReady self.new.seat.node.tables) }
+        ensures phase { OnOk result (self.new.phase ≡ LinesOver) }
         ensures ended { OnOk result (verdict_of self.new.waves ≡ Ended) }
         ensures serves { (first : _) → IsOver (rules_of A.act_of self.old.seat.node.tables.localities self.old.seat.node.tables.profile) self.old.seat.book.entries (I.went first lines.old) →
             OnOk result (Serves (rules_of A.act_of self.new.seat.node.tables.localities self.new.seat.node.tables.profile) self.new.seat.book.entries (Only (I.went first lines.new)) Done) }
@@ -389,6 +405,8 @@ impl<A: Acts + Copy, L: Link + Drop> ConsoleSeat<A, L> {
             (I.writes lines.old) (I.writes lines.new) (I.full lines.new) (L.faults self.old.seat.link) (L.faults self.new.seat.link)) }
     {
         let cut = self.seat.book.entries();
+        self.phase = Phase::LinesOver;
+        self.waves.restart();
         match self.round(rt, alloc) {
             Ok(()) => {}
             Err(stop) => return Err(Halt::Member(stop)),
@@ -401,14 +419,15 @@ impl<A: Acts + Copy, L: Link + Drop> ConsoleSeat<A, L> {
 
     /// Tells the others to end.
     fn end(&mut self) -> Result<(), Stop>
+        requires closed { self.old.phase ≡ LinesOver }
         requires ended { verdict_of self.old.waves ≡ Ended }
-        requires leads { Leads A.act_of self.old.others self.old.settles self.old.seat.node.tables self.old.seat.book.entries (L.trace self.old.seat.link) self.old.waves }
+        requires leads { Leads A.act_of self.old.others self.old.settles self.old.phase self.old.seat.node.tables self.old.seat.book.entries (L.trace self.old.seat.link) self.old.waves }
         ensures sits { OnOk result (Sits A.act_of self.new.seat.node.tables self.new.seat.book.entries [] (L.trace self.new.seat.link)) }
         ensures asks { OnOk result (AsksBut (rules_of A.act_of self.new.seat.node.tables.localities self.new.seat.node.tables.profile) self.new.settles self.new.seat.book.entries (L.trace self.new.seat.link) (Ending self.new.others)) }
         ensures node { self.new.seat.node ≡ self.old.seat.node }
         ensures book { self.new.seat.book ≡ self.old.seat.book }
         ensures left { IfErr result (λ stop. LeadsLeft A.act_of self.new.settles stop self.new.seat.node.tables self.new.seat.book.entries (L.trace self.new.seat.link)) }
-        ensures same { (self.new.others ≡ self.old.others) × (self.new.settles ≡ self.old.settles) }
+        ensures same { (self.new.others ≡ self.old.others) × (self.new.settles ≡ self.old.settles) × (self.new.phase ≡ self.old.phase) }
         ensures calm { OnOk result (L.faults self.new.seat.link ≡ L.faults self.old.seat.link) }
         ensures stops { IfErr result (IsCauseBy IsNoFrame self.new.seat.node.tables self.new.seat.book.entries (L.latest self.new.seat.link) (L.faults self.old.seat.link) (L.faults self.new.seat.link)) }
     {
@@ -421,9 +440,8 @@ impl<A: Acts + Copy, L: Link + Drop> ConsoleSeat<A, L> {
     /// Serves lines until they are over, ends the last round, and tells the others to end.
     fn run<R: Wait, I: Lines>(&mut self, rt: &R, alloc: Global, lines: &mut I) -> Result<(), Halt>
         requires ready { IsReady self.old.seat.node.tables }
-        requires done { waits self.old.waves ≡ false }
-        requires settled { self.old.settles ≡ true → (self.old.seat.book.entries ≡ []) ⊎ (verdict_of self.old.waves ≡ Ended) }
-        requires leads { Leads A.act_of self.old.others self.old.settles self.old.seat.node.tables self.old.seat.book.entries (L.trace self.old.seat.link) self.old.waves }
+        requires next { MayGoOn self.old.settles self.old.waves self.old.phase }
+        requires leads { Leads A.act_of self.old.others self.old.settles self.old.phase self.old.seat.node.tables self.old.seat.book.entries (L.trace self.old.seat.link) self.old.waves }
         ensures sits { OnOk result (Sits A.act_of self.new.seat.node.tables self.new.seat.book.entries [] (L.trace self.new.seat.link)) }
         ensures asks { OnOk result (AsksBut (rules_of A.act_of self.new.seat.node.tables.localities self.new.seat.node.tables.profile) self.new.settles self.new.seat.book.entries (L.trace self.new.seat.link) (Ending self.new.others)) }
         ensures ready { OnOk result (IsReady self.new.seat.node.tables) }
@@ -509,6 +527,7 @@ pub fn console<R: Wait, A: Acts + Copy, L: Link + Drop, I: Lines>(
         waves,
         others: members - 1,
         settles,
+        phase: Phase::Unfed,
     };
     let ran = console.run(rt, alloc, lines);
     let ConsoleSeat {
@@ -516,6 +535,7 @@ pub fn console<R: Wait, A: Acts + Copy, L: Link + Drop, I: Lines>(
         waves: _,
         others: _,
         settles: _,
+        phase: _,
     } = console;
     halted(ran, seat)
 }

@@ -41,8 +41,8 @@ returns-in-Err-boot-clause-asked g c =
     asked_unbooted _ _ _ _ _ _ c.unbooted-in-Err-boot.ensures.status c.unbooted-in-Err-boot.ensures.journal
     (λ tr told. c.requires.empty tr (sym (ap g.L.Link.trace c.unbooted-in-Err-boot.ensures.link) ∙ told))
 
-pub run-ran-requires-clause-done : goal.run-ran-requires-clause-done
-run-ran-requires-clause-done g c = subst (λ t. waits t ≡ false) (sym c.in-Ok.ensures) (waits_fresh c.localities-members.result)
+pub run-ran-requires-clause-next : goal.run-ran-requires-clause-next
+run-ran-requires-clause-next g c = subst (λ t. waits t ≡ false) (sym c.in-Ok.ensures) (waits_fresh c.localities-members.result)
 
 pub run-ran-requires-clause-leads : goal.run-ran-requires-clause-leads
 run-ran-requires-clause-leads g c =

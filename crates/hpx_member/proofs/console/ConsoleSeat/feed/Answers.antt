@@ -8,7 +8,7 @@ use Rattle.hpx_member.proofs.console.ConsoleSeat.feed.Goals as goal
 pub returns-in-Ok-clause-leads : goal.returns-in-Ok-clause-leads
 returns-in-Ok-clause-leads g c =
     let room : HasRoom c.args.self.now.seat.book.entries = search rules in
-    leads_fed g.A.Acts.act_of _ _ _ _ _ _ _ _ _ _ _ c.requires.leads c.requires.done c.requires.settled c.in-Ok.ensures.line c.feed.ensures.stands
+    leads_fed g.A.Acts.act_of _ _ _ _ _ _ _ _ _ _ _ _ c.requires.leads c.requires.next c.in-Ok.ensures.line c.feed.ensures.stands
     (turn_within _ _ room c.feed.ensures.turn) c.restart.ensures
 
 pub returns-in-Ok-clause-done : goal.returns-in-Ok-clause-done

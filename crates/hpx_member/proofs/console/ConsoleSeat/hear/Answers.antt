@@ -9,32 +9,32 @@ use Rattle.hpx_member.proofs.console.ConsoleSeat.hear.Goals as goal
 pub returns-in-Ok-clause-leads : goal.returns-in-Ok-clause-leads
 returns-in-Ok-clause-leads g c =
     let framed : is_frame c.in_ok-from.body ≡ true = ap is_frame (sym c.as_slice.ensures) ∙ (sym c.is_frame.ensures ∙ c.if-is_frame.true) in
-    let before = leads_same g.A.Acts.act_of c.args.self.now.others c.args.self.now.settles _ c.listen.new.self.node.tables _ c.listen.new.self.book.entries _ _ _
+    let before = leads_same g.A.Acts.act_of c.args.self.now.others c.args.self.now.settles c.args.self.now.phase _ c.listen.new.self.node.tables _ c.listen.new.self.book.entries _ _ _
     c.requires.leads (ap (λ (n : Locality). n.tables) c.listen.ensures.node) (ap (λ (b : Book). b.entries) c.listen.ensures.book) refl in
-    leads_accepted g.A.Acts.act_of _ _ _ _ _ _ _ _ _ c.in_ok-from.from c.in_ok-from.body before framed (ap g.L.Link.trace c.accept.ensures.link ∙ c.in_ok-from.ensures.told)
+    leads_accepted g.A.Acts.act_of _ _ _ _ _ _ _ _ _ _ c.in_ok-from.from c.in_ok-from.body before framed (ap g.L.Link.trace c.accept.ensures.link ∙ c.in_ok-from.ensures.told)
     c.in-Ok.ensures.sits c.accept.ensures.site c.accept.ensures.grows
 
 pub returns-in-Err-clause-left : goal.returns-in-Err-clause-left
 returns-in-Err-clause-left g c =
     let framed : is_frame c.in_ok-from.body ≡ true = ap is_frame (sym c.as_slice.ensures) ∙ (sym c.is_frame.ensures ∙ c.if-is_frame.true) in
-    let before = leads_same g.A.Acts.act_of c.args.self.now.others c.args.self.now.settles _ c.listen.new.self.node.tables _ c.listen.new.self.book.entries _ _ _
+    let before = leads_same g.A.Acts.act_of c.args.self.now.others c.args.self.now.settles c.args.self.now.phase _ c.listen.new.self.node.tables _ c.listen.new.self.book.entries _ _ _
     c.requires.leads (ap (λ (n : Locality). n.tables) c.listen.ensures.node) (ap (λ (b : Book). b.entries) c.listen.ensures.book) refl in
-    left_accepted g.A.Acts.act_of _ _ c.in-Err.stop _ _ _ _ _ _ _ c.in_ok-from.from c.in_ok-from.body before framed
+    left_accepted g.A.Acts.act_of _ _ _ c.in-Err.stop _ _ _ _ _ _ _ c.in_ok-from.from c.in_ok-from.body before framed
     (ap g.L.Link.trace c.accept.ensures.link ∙ c.in_ok-from.ensures.told) c.in-Err.ensures.left c.accept.ensures.site c.accept.ensures.grows
     c.in-Err.ensures.leaves c.in-Err.ensures.other
 
 pub returns-then-count-clause-leads : goal.returns-then-count-clause-leads
 returns-then-count-clause-leads g c =
     let control : is_frame c.in_ok-from.body ≡ false = ap is_frame (sym c.as_slice.ensures) ∙ (sym c.is_frame.ensures ∙ c.if-is_frame.false) in
-    let before = leads_same g.A.Acts.act_of c.args.self.now.others c.args.self.now.settles _ c.listen.new.self.node.tables _ c.listen.new.self.book.entries _ _ _
+    let before = leads_same g.A.Acts.act_of c.args.self.now.others c.args.self.now.settles c.args.self.now.phase _ c.listen.new.self.node.tables _ c.listen.new.self.book.entries _ _ _
     c.requires.leads (ap (λ (n : Locality). n.tables) c.listen.ensures.node) (ap (λ (b : Book). b.entries) c.listen.ensures.book) refl in
-    leads_counted g.A.Acts.act_of _ _ _ _ _ _ _ _ c.in_ok-from.from c.in_ok-from.body before control c.in_ok-from.ensures.told c.in_ok-from.ensures.heard
+    leads_counted g.A.Acts.act_of _ _ _ _ _ _ _ _ _ c.in_ok-from.from c.in_ok-from.body before control c.in_ok-from.ensures.told c.in_ok-from.ensures.heard
     (subst (λ b. TakesCounts c.in_ok-from.from b c.args.self.now.waves c.count.new.waves) c.as_slice-2.ensures (c.count.ensures.counts c.if-count.true))
 
 pub returns-clause-left : goal.returns-clause-left
 returns-clause-left g c =
     let control : is_frame c.in_ok-from.body ≡ false = ap is_frame (sym c.as_slice.ensures) ∙ (sym c.is_frame.ensures ∙ c.if-is_frame.false) in
-    let before = leads_same g.A.Acts.act_of c.args.self.now.others c.args.self.now.settles _ c.listen.new.self.node.tables _ c.listen.new.self.book.entries _ _ _
+    let before = leads_same g.A.Acts.act_of c.args.self.now.others c.args.self.now.settles c.args.self.now.phase _ c.listen.new.self.node.tables _ c.listen.new.self.book.entries _ _ _
     c.requires.leads (ap (λ (n : Locality). n.tables) c.listen.ensures.node) (ap (λ (b : Book). b.entries) c.listen.ensures.book) refl in
-    left_refused g.A.Acts.act_of _ _ _ _ _ _ c.args.self.now.waves c.in_ok-from.from c.in_ok-from.body before control c.in_ok-from.ensures.told
+    left_refused g.A.Acts.act_of _ _ _ _ _ _ _ c.args.self.now.waves c.in_ok-from.from c.in_ok-from.body before control c.in_ok-from.ensures.told
     c.in_ok-from.ensures.heard (subst (λ b. IsUnasked c.args.self.now.waves c.in_ok-from.from b) c.as_slice-2.ensures (c.count.ensures.refused c.if-count.false).1)

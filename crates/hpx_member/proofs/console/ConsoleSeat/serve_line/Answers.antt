@@ -11,7 +11,7 @@ pub returns-in-Ok-show-clause-serves : goal.returns-in-Ok-show-clause-serves
 returns-in-Ok-show-clause-serves g c = λ first s same.
     line_served g.A.Acts.act_of _ _ _ _ (g.I.Lines.went first c.args.lines.now) (g.I.Lines.went first c.next.new.self) c.in-Ok-Some.line
     c.answer.ensures.site s (λ talk w. rw c.in-Ok-Some.field-0-is at (c.in-Ok-Some.ensures.said first talk w)) (g.I.Lines.went first c.show.new.self) _
-    c.entries-cut.ensures c.in-Ok.ensures.fed (leads_ready g.A.Acts.act_of _ _ _ _ _ _ c.in-Ok.ensures.leads c.in-Ok.ensures.ready)
+    c.entries-cut.ensures c.in-Ok.ensures.fed (leads_ready g.A.Acts.act_of _ _ _ _ _ _ _ c.in-Ok.ensures.leads c.in-Ok.ensures.ready)
     (λ talk w. c.in-Ok-show.ensures.said first talk w)
 
 pub returns-in-Err-show-clause-broken : goal.returns-in-Err-show-clause-broken
