@@ -180,10 +180,10 @@ module _ (n : ℕ) (p : Profile) (settles : Bool) (ms : ℕ → Left) (es : List
 
   module _ (x z : Ports) (well : (ms 0).status ≡ 0) (none : count_events is_refused_count es ≡ 0) (did : HasSat r (ms 0) x z) (input : List ℕ) (left : x.left ≡ Some input)
       (short : length (lines_of input) < 4000000000) where
-    w : IsWhole r input (ms 0).entries x.text z.text
+    abbrev w : IsWhole r input (ms 0).entries x.text z.text
     w = did.whole well input left
 
-    blocks : List (List Entry)
+    abbrev blocks : List (List Entry)
     blocks = w.first ∷ fed_blocks w.parts
 
     front_is : entries_of blocks ≡ w.first ++ flat_map (λ q. q.entries) w.parts
@@ -202,7 +202,7 @@ module _ (n : ℕ) (p : Profile) (settles : Bool) (ms : ℕ → Left) (es : List
     ready_behind = ready_of (run_local r (at_boot r 0) (entries_of blocks)) (subst (λ l. IsIdle (run_local r (at_boot r 0) l)) (sym front_is)
         (w.idle (subst (IsClean r (at_boot r 0)) front_is (clean_front r (at_boot r 0) (entries_of blocks) w.later (subst (IsClean r (at_boot r 0)) own_is clean_here)))))
 
-    lines : List (List ℕ)
+    abbrev lines : List (List ℕ)
     lines = map line_in w.parts
 
     few_lines : length lines < 4000000000
@@ -237,7 +237,7 @@ module _ (n : ℕ) (p : Profile) (settles : Bool) (ms : ℕ → Left) (es : List
     ending : verdict_of (tally_of n turns) ≡ Ended
     ending =
         let last = ends_well n (ms 0).fault j.console.asked.last (subst (λ s. Ends n s (ms 0).fault j.console.asked.last) well j.console.asked.ends) in
-        (subst (Closes n settles turns) last.1 j.console.asked.asked.closes).1.0
+        (subst (Closes n settles turns) last.1 j.console.asked.asked.closes).1
 
     pub has_ended : HasEnded r es
     has_ended = record {
@@ -251,8 +251,9 @@ module _ (n : ℕ) (p : Profile) (settles : Bool) (ms : ℕ → Left) (es : List
       ended = ending;
       last = subst (λ own. AllByRecursion (λ e. FeedsNothing e.event) (drop (heard.answers.lengths heard.wave 0) own)) (sym (j.parts 0 (omega (arith, some))))
           (none_behind 0 (heard.answers.lengths heard.wave 0) (ms 0).entries
+          (all_weaker (heard.answers.lengths heard.wave 0) (0 + heard.answers.lengths heard.wave 0) (lines_from 0 (ms 0).entries) (omega arith)
           (subst (AllByRecursion (λ i. i < heard.answers.lengths heard.wave 0)) j.console.asked.asked.asked.course.lines
-          (before_two r (ms 0).entries turns (heard.answers.lengths (suc heard.wave) 0) (heard.answers.lengths heard.wave 0) heard.before heard.own j.console.asked.asked.asked.course.own)));
+          (before_two r (ms 0).entries turns (heard.answers.lengths (suc heard.wave) 0) (heard.answers.lengths heard.wave 0) heard.before heard.own j.console.asked.asked.asked.course.own))));
     }
 
     pub quiet : IsQuiet r (replayed r es)
