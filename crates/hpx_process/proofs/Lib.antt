@@ -1,3 +1,4 @@
+pub mod Results
 pub mod Talking
 pub mod Prompts
 pub mod Passing

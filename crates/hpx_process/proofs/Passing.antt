@@ -51,6 +51,10 @@ passed_line line x y z talk h before asked text = record {
   text = text ∙ (h.text ∙ ap (λ es. followed x.text (concat (prints_of es))) (sym (shown_last talk (Handed line) ∙ append-nil (shown_in talk))));
 }
 
+pub passed_such : (line other : List ℕ) (x y z : Note) (talk : List Talk) → HasPassed line x y talk → y.asked ≡ false → z.asked ≡ true → z.text ≡ y.text → other ≡ line
+    → HasPassed line x z (talk ++ Handed other ∷ [])
+passed_such line other x y z talk h before asked text same = subst (λ l. HasPassed line x z (talk ++ Handed l ∷ [])) (sym same) (passed_line line x y z talk h before asked text)
+
 -- there is none
 pub passed_over : (line : List ℕ) (x y : Note) (talk : List Talk) → HasPassed line x y talk → y.asked ≡ true → HasPassed line x y (talk ++ Over ∷ [])
 passed_over line x y talk h asked = record {

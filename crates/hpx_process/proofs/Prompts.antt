@@ -15,7 +15,8 @@ use Rattle.hpx_top.proofs.LineLemmas.{followed_nothing, followed_twice, long_goe
 use Rattle.hpx_process.specs.declared.sheet.Sheet.{Sheet}
 use Rattle.hpx_process.specs.declared.sheet.Sheet.TheVariants.{Blank, Open, Full}
 use Rattle.hpx_process.specs.Asked.{HasTyped, TypesLine, TypesLong, TypesNone}
-use Rattle.hpx_process.specs.Deeds.{AreLeft, AreLong, Asking, Breaks, Does, Ends, Fails, MayLose, Reads, Sitting, Takes, Wrote, lines_at, longs_text}
+use Rattle.hpx_process.specs.Deeds.{AreLeft, AreLong, Asking, Breaks, Does, Ends, Fails, MayLose, Reads, Sitting, Takes, Wrote, lines_at, longs_text, sitting}
+use Rattle.hpx_top.specs.Reader.{Reading}
 use Rattle.hpx_process.proofs.Talking.{handed_more, handed_none, reads_more, reads_none}
 
 -- ---- what is typed
@@ -31,7 +32,7 @@ none_by_quit all left t = subst (λ o. IfSome o (λ lines. before_quit lines ≡
   where
     by_left : (o : Option (List (List ℕ))) → IfSome (preceded (t.line ∷ []) o) (λ lines. before_quit lines ≡ [])
     by_left None = tt
-    by_left (Some lines) = rw t.quit in refl
+    by_left (Some lines) = rw t.quit refl
 
 pub none_at_end : (all : Option (List (List ℕ))) → IfSome all (λ lines. lines ≡ []) → IfSome all (λ lines. before_quit lines ≡ [])
 none_at_end None h = tt
@@ -66,21 +67,21 @@ pub takes_line : (text : List ℕ) (longs : List (List ℕ)) (x y z : Sitting) �
 takes_line text longs x y z at_open h t sheet reads =
     let opens : z.sheet ≡ Open = sheet ∙ (h.sheet ∙ at_open) in
     record {
-      turns = rw at_open in (h.long, t.fits, opens);
+      turns = rw at_open (h.long, t.fits, opens);
       text = with_prompt longs x y z h t.written;
       others = lines_at z;
       typed = λ other. handed_more (lines_at x) (lines_at y) (lines_at z) longs (t.line ∷ []) h.typed t.typed;
-      left = λ other. rw opens in refl;
+      left = λ other. rw opens refl;
       reads = reads_more x y z h.reads reads;
     }
 
 pub ends_lines : (longs : List (List ℕ)) (x y z : Sitting) → x.sheet ≡ Open → HasTyped longs x y → TypesNone y z → z.sheet ≡ Full → Reads y z → Does (Ends longs) x z
 ends_lines longs x y z at_open h t full reads = record {
-  turns = rw at_open in (h.long, full);
+  turns = rw at_open (h.long, full);
   text = with_prompt longs x y z h t.written;
   others = lines_at y;
   typed = λ other. h.typed;
-  left = λ other. rw full in t.last;
+  left = λ other. rw full t.last;
   reads = reads_more x y z h.reads reads;
 }
 
@@ -112,7 +113,7 @@ asking_fails fault longs more lost x y z at_open h f =
     let parts = open_breaks fault y.sheet more lost (h.sheet ∙ at_open) f.breaks in
     record {
       sheet = f.sheet ∙ h.sheet;
-      breaks = rw at_open in (all_append longs more h.long parts.0, parts.1);
+      breaks = rw at_open (all_append longs more h.long parts.0, parts.1);
       text = wrote_behind fault (longs_text longs) (longs_text more ++ prompt) (longs_text (longs ++ more) ++ prompt) x.text y.text z.text (texts_append longs more) h.written f.text;
       typed = λ other. subst (HandsOut (lines_at x) (lines_at z)) (sym (append_assoc longs more lost))
           (handed_more (lines_at x) (lines_at y) (lines_at z) longs (more ++ lost) h.typed (f.typed (λ full. other (sym h.sheet ∙ full))));
@@ -124,7 +125,7 @@ pub prompt_fails : (fault : LineFault) (lost : List (List ℕ)) (x z : Sitting) 
     → HandsOut (lines_at x) (lines_at z) lost → Reads x z → Fails fault (Asking [] lost) x z
 prompt_fails fault lost x z at_open sheet may text typed reads = record {
   sheet = sheet;
-  breaks = rw at_open in (tt, may);
+  breaks = rw at_open (tt, may);
   text = text;
   typed = λ other. typed;
   reads = reads;
@@ -135,7 +136,7 @@ pub error_fails : (line : List ℕ) (x z : Sitting) (mid : Option (List ℕ)) �
     → WritesFront too_long mid z.text → HandsOut (lines_at x) (lines_at z) (line ∷ []) → Reads x z → Fails Write (Asking (line ∷ []) []) x z
 error_fails line x z mid at_open sheet long written w typed reads = record {
   sheet = sheet;
-  breaks = rw at_open in ((long, tt), refl);
+  breaks = rw at_open ((long, tt), refl);
   text = record {
     front = prompt ++ w.front;
     begins = record {
@@ -150,3 +151,18 @@ error_fails line x z mid at_open sheet long written w typed reads = record {
   where
     regroup : (a b c d : List ℕ) → (a ++ b) ++ (c ++ d) ≡ (a ++ (b ++ c)) ++ d
     regroup a b c d = simp append_assoc
+
+-- a write that failed, of a prompt or of the error
+pub prompt_unwritten : (fault : LineFault) (s : Sheet) (reading : Reading) (left : Option (List ℕ)) (taken : ℕ) (old new : Option (List ℕ)) → s ≡ Open → fault ≡ Write
+    → WritesFront prompt old new → (longs lost : List (List ℕ)) × Fails fault (Asking longs lost) (sitting s reading left taken old) (sitting s reading left taken new)
+prompt_unwritten fault s reading left taken old new at_open why w =
+    let x = sitting s reading left taken old in
+    let z = sitting s reading left taken new in
+    ([], [], subst (λ f. Fails f (Asking [] []) x z) (sym why)
+    (prompt_fails Write [] x z at_open refl refl w (handed_none (lines_at x)) (record { next = λ all h. h; counted = refl })))
+
+pub error_unwritten : (fault : LineFault) (line : List ℕ) (x z : Sitting) (mid : Option (List ℕ)) → x.sheet ≡ Open → z.sheet ≡ x.sheet → fault ≡ Write → is_long line ≡ true
+    → mid ≡ followed x.text prompt → WritesFront too_long mid z.text → HandsOut (lines_at x) (lines_at z) (line ∷ []) → Reads x z
+    → (longs lost : List (List ℕ)) × Fails fault (Asking longs lost) x z
+error_unwritten fault line x z mid at_open sheet why long written w typed reads =
+    (line ∷ [], [], subst (λ f. Fails f (Asking (line ∷ []) []) x z) (sym why) (error_fails line x z mid at_open sheet long written w typed reads))

@@ -9,7 +9,8 @@ use Rattle.hpx_journal.specs.Pool.{prints_of}
 use Rattle.hpx_journal.specs.Sessions.{BeginsWith, FeedsNothing}
 use Rattle.hpx_part.specs.Data.{Entry}
 use Rattle.hpx_ports.specs.Told.{followed}
-use Rattle.hpx_member.specs.Leads.{HasServed, status_of_lines}
+use Rattle.hpx_value.specs.declared.profile.Profile.{Profile}
+use Rattle.hpx_member.specs.Leads.{HasLineCause, HasServed, status_of_lines}
 use Rattle.hpx_member.specs.Serves.{Asking, Block, Closing, Done, Feeding, Given, IsAt, IsBlock, Serves, Stage, entries_in, talk_at, talk_in, tried_at}
 use Rattle.hpx_member.specs.Talks.{Only, Talk, Handed, Over, Shown}
 use Rattle.hpx_member.specs.declared.lines.LineFault.{LineFault}
@@ -20,9 +21,12 @@ use Rattle.hpx_top.specs.Session.{WritesFront, lines_fed}
 use Rattle.hpx_top.proofs.EndLemmas.{read_from, read_none}
 use Rattle.hpx_top.proofs.LineLemmas.{block_line, followed_nothing, followed_twice, lines_fed_append, none_fed}
 use Rattle.hpx_process.specs.declared.sheet.Sheet.TheVariants.{Blank}
-use Rattle.hpx_process.specs.Deeds.{HasBroken, HasTalked, Reads, Sitting, Wrote}
+use Rattle.hpx_top.specs.Runs.{Ports, ports_of}
+use Rattle.hpx_process.specs.declared.sheet.Sheet.{Sheet}
+use Rattle.hpx_process.specs.Deeds.{HasBroken, HasTalked, Reads, Sitting, Wrote, sitting}
+use Rattle.hpx_process.specs.Members.{HasMembersCause, HasReckoned, HasSat, IsConsole, Left}
 use Rattle.hpx_process.specs.Parts.{IsWhole}
-use Rattle.hpx_process.specs.Slips.{HasPassed, HasStuck, IfOver, Note, handed_by, handed_in, shown_by, shown_in, unasked}
+use Rattle.hpx_process.specs.Slips.{HasPassed, HasStuck, IfOver, Note, note, handed_by, handed_in, shown_by, shown_in, unasked}
 use Rattle.hpx_process.proofs.Passing.{prints_append}
 use Rattle.hpx_process.proofs.Texts.{whole}
 
@@ -89,7 +93,7 @@ sat_full x z fresh full reads =
 
 -- ---- by a slip
 
-block_lines : List Block → List (List ℕ)
+abbrev block_lines : List Block → List (List ℕ)
 block_lines blocks = map (λ b. b.line) blocks
 
 handed_blocks : (blocks : List Block) → handed_in (talk_in blocks) ≡ block_lines blocks
@@ -220,3 +224,85 @@ reckoned_whole r status line es x z none well served =
       ap lines_fed s.is ∙ (fed ∙ (sym handed ∙ (sym (append-nil _) ∙ (ap (λ b. handed_in (talk_in s.blocks ++ (Over ∷ (Shown s.rest ∷ []))) ++ unasked b line) (sym asked) ∙ (sym s.talk.handed ∙ ap (λ b. unasked b line) none))))),
       s.talk.text ∙ ap (λ e. followed x.text (concat (prints_of e))) (shown ∙ sym s.is),
     )
+
+-- ---- what it leaves
+
+abbrev at_first : Ports → Sitting
+at_first x = sitting Blank (record { pending = []; read = 0; ended = false }) x.left x.taken x.text
+
+from_desk : (r : Rules) (status : ℕ) (es : List Entry) (s : Sheet) (reading : Reading) (left : Option (List ℕ)) (taken : ℕ) (text : Option (List ℕ)) (z : Sitting) → s ≡ Blank
+    → reading ≡ record { pending = []; read = 0; ended = false } → HasServed r status es (HasTalked (sitting s reading left taken text) z) (HasBroken (sitting s reading left taken text) z)
+    → HasServed r status es (HasTalked (sitting Blank (record { pending = []; read = 0; ended = false }) left taken text) z)
+      (HasBroken (sitting Blank (record { pending = []; read = 0; ended = false }) left taken text) z)
+from_desk r status es s reading left taken text z blank fresh served =
+    subst (λ q. HasServed r status es (HasTalked (sitting Blank q left taken text) z) (HasBroken (sitting Blank q left taken text) z)) fresh
+    (subst (λ a. HasServed r status es (HasTalked (sitting a reading left taken text) z) (HasBroken (sitting a reading left taken text) z)) blank served)
+
+pub sat : (r : Rules) (m : Left) (x z : Ports) (s sheet : Sheet) (first reading : Reading) → s ≡ Blank → first ≡ record { pending = []; read = 0; ended = false }
+    → HasServed r m.status m.entries (HasTalked (sitting s first x.left x.taken x.text) (sitting sheet reading z.left z.taken z.text))
+      (HasBroken (sitting s first x.left x.taken x.text) (sitting sheet reading z.left z.taken z.text))
+    → HasSat r m x z
+sat r m x z s sheet first reading blank fresh served =
+    let end = sitting sheet reading z.left z.taken z.text in
+    let all = from_desk r m.status m.entries s first x.left x.taken x.text end blank fresh served in
+    record {
+      sheet = sheet;
+      reading = reading;
+      served = all;
+      reads = λ input left. sat_read_from input (at_first x) end refl left (sat_reads r m.status m.entries (at_first x) end all);
+      whole = λ well input left. sat_whole r m.status m.entries input (at_first x) end refl refl left well all;
+    }
+
+pub sat_cause : (n : ℕ) (p : Profile) (settles : Bool) (r : Rules) (m : Left) (x z : Ports) (s sheet : Sheet) (first reading : Reading) → s ≡ Blank
+    → first ≡ record { pending = []; read = 0; ended = false }
+    → HasServed r m.status m.entries (HasTalked (sitting s first x.left x.taken x.text) (sitting sheet reading z.left z.taken z.text))
+      (HasBroken (sitting s first x.left x.taken x.text) (sitting sheet reading z.left z.taken z.text))
+    → IsConsole n p settles m → HasLineCause m.status x.read_faults z.read_faults x.write_faults z.write_faults (reading.read == 67108864) → z.frame_faults ≡ x.frame_faults
+    → HasMembersCause m.status m.faults x z
+sat_cause n p settles r m x z s sheet first reading blank fresh served console lines same =
+    let end = sitting sheet reading z.left z.taken z.text in
+    let all = from_desk r m.status m.entries s first x.left x.taken x.text end blank fresh served in
+    record {
+      read = lines.read;
+      write = lines.write;
+      frame = λ h. inr (console.member.failed h);
+      input = λ h. sat_full (at_first x) end refl (lines.ended h) (sat_reads r m.status m.entries (at_first x) end all);
+      read_only = lines.read_only;
+      write_only = lines.write_only;
+      frame_only = λ h. (same, console.member.calm h);
+    }
+
+pub reckoned : (r : Rules) (m : Left) (x z : Ports) (given line : List ℕ) (first asked : Bool) → given ≡ line → first ≡ false
+    → HasServed r m.status m.entries (HasPassed given (note first x.text) (note asked z.text)) (HasStuck given (note first x.text) (note asked z.text))
+    → z.left ≡ x.left → z.taken ≡ x.taken → HasReckoned r line m x z
+reckoned r m x z given line first asked is none served left taken =
+    let all : HasServed r m.status m.entries (HasPassed line (note false x.text) (note asked z.text)) (HasStuck line (note false x.text) (note asked z.text)) =
+    subst (λ a. HasServed r m.status m.entries (HasPassed line (note a x.text) (note asked z.text)) (HasStuck line (note a x.text) (note asked z.text))) none
+    (subst (λ l. HasServed r m.status m.entries (HasPassed l (note first x.text) (note asked z.text)) (HasStuck l (note first x.text) (note asked z.text))) is served) in
+    record {
+      asked = asked;
+      served = all;
+      fed = reckoned_fed r m.status line m.entries (note false x.text) (note asked z.text) refl all;
+      front = reckoned_front r m.status line m.entries (note false x.text) (note asked z.text) all;
+      whole = λ well. reckoned_whole r m.status line m.entries (note false x.text) (note asked z.text) refl well all;
+      unread = (left, taken);
+    }
+
+-- ---- what holds behind a reference holds where it is given back
+
+pub reckoned_back : {A : Type 0} (held : A → Option (List ℕ)) (faults : A → ℕ) (r : Rules) (line : List ℕ) (m : Left) (x : Ports) (given new : A) → given ≡ new
+    → HasReckoned r line m x (ports_of None 0 (held new) 0 (faults new) 0) → HasReckoned r line m x (ports_of None 0 (held given) 0 (faults given) 0)
+reckoned_back held faults r line m x given new is h = subst (λ s. HasReckoned r line m x (ports_of None 0 (held s) 0 (faults s) 0)) (sym is) h
+
+pub sat_back : {A : Type 0} {B : Type 0} (left : A → Option (List ℕ)) (taken : A → ℕ) (reads : A → ℕ) (held : B → Option (List ℕ)) (writes : B → ℕ) (r : Rules) (m : Left) (x : Ports)
+    (a b : A) (c d : B) → a ≡ b → c ≡ d → HasSat r m x (ports_of (left b) (taken b) (held d) (reads b) (writes d) 0) → HasSat r m x (ports_of (left a) (taken a) (held c) (reads a) (writes c) 0)
+sat_back left taken reads held writes r m x a b c d first second h =
+    subst (λ s. HasSat r m x (ports_of (left s) (taken s) (held c) (reads s) (writes c) 0)) (sym first)
+    (subst (λ k. HasSat r m x (ports_of (left b) (taken b) (held k) (reads b) (writes k) 0)) (sym second) h)
+
+pub cause_back : {A : Type 0} {B : Type 0} (left : A → Option (List ℕ)) (taken : A → ℕ) (reads : A → ℕ) (held : B → Option (List ℕ)) (writes : B → ℕ) (status faults : ℕ) (x : Ports)
+    (a b : A) (c d : B) → a ≡ b → c ≡ d → HasMembersCause status faults x (ports_of (left b) (taken b) (held d) (reads b) (writes d) 0)
+    → HasMembersCause status faults x (ports_of (left a) (taken a) (held c) (reads a) (writes c) 0)
+cause_back left taken reads held writes status faults x a b c d first second h =
+    subst (λ s. HasMembersCause status faults x (ports_of (left s) (taken s) (held c) (reads s) (writes c) 0)) (sym first)
+    (subst (λ k. HasMembersCause status faults x (ports_of (left b) (taken b) (held k) (reads b) (writes k) 0)) (sym second) h)

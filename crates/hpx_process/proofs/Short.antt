@@ -1,10 +1,11 @@
 -- A line that asks for something has no more bytes than one that may be fed.
 use Rattle.std.specs.Prelude.{◌≤◌, ◌<◌, ◌++◌, ◌^◌, length, codes}
 use Rattle.std.specs.Fmt.{decimal}
-use Rattle.std.proofs.Common.{ℕ, arith, lit≤}
+use Rattle.std.proofs.Common.{ℕ, List, ◌≡◌, Result, Ok, Err, IfOk, sym, subst, arith, lit≤, length-append}
 use Rattle.std.proofs.lemmas.Fmt.{length-decimal-le_wide}
-use Rattle.std.proofs.lemmas.List.{length-append}
 use Rattle.app_compute.specs.FibLaw.{fed_line}
+use Rattle.app_compute.specs.Lines.{fib_line}
+use Rattle.app_compute.specs.Stencil.{stencil_line}
 use Rattle.app_compute.specs.StencilLaw.{ring_fed}
 
 ten : (n : ℕ) → n < 2 ^ 32 → length (decimal n) ≤ 10
@@ -34,3 +35,14 @@ ring_short p q s points parts steps =
       length-append (decimal q) (codes " " ++ decimal s),
       length-append (codes " ") (decimal s),
     )
+
+-- so is what is made for it
+pub number_made : {E : Type 0} (r : Result (List ℕ) E) (number threshold : ℕ) → number < 2 ^ 32 → threshold < 2 ^ 32 → IfOk r (λ line. line ≡ fib_line number threshold)
+    → IfOk r (λ line. length line ≤ 1024)
+number_made (Ok line) number threshold n t is = let short = number_short number threshold n t in subst (λ l. length l ≤ 1024) (sym is) (omega (arith, short))
+number_made (Err e) number threshold n t is = tt
+
+pub ring_made : {E : Type 0} (r : Result (List ℕ) E) (p q s : ℕ) → p < 2 ^ 32 → q < 2 ^ 32 → s < 2 ^ 32 → IfOk r (λ line. line ≡ stencil_line p q s)
+    → IfOk r (λ line. length line ≤ 1024)
+ring_made (Ok line) p q s points parts steps is = let short = ring_short p q s points parts steps in subst (λ l. length l ≤ 1024) (sym is) (omega (arith, short))
+ring_made (Err e) p q s points parts steps is = tt

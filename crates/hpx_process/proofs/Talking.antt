@@ -8,8 +8,8 @@ use Rattle.std.proofs.lemmas.List.Folds.{list_any-append}
 use Rattle.hpx_journal.specs.Pool.{prints_of}
 use Rattle.hpx_part.specs.Data.{Entry}
 use Rattle.hpx_ports.specs.Told.{followed, preceded}
-use Rattle.app_console.specs.Lines.{is_quit, before_quit}
-use Rattle.hpx_member.specs.Talks.{Talk, Handed, talk_of}
+use Rattle.app_console.specs.Lines.{is_quit, before_quit, opening}
+use Rattle.hpx_member.specs.Talks.{Talk, Handed, Shown, talk_of}
 use Rattle.hpx_member.specs.declared.lines.LineFault.{LineFault}
 use Rattle.hpx_member.specs.declared.lines.LineFault.TheVariants.{Write, OutOfMemory}
 use Rattle.hpx_top.specs.Reader.{Reading, lines_left}
@@ -200,6 +200,13 @@ shows_fails es s reading left taken old new w = record {
   reads = record { next = λ all h. h; counted = refl };
 }
 
+pub shows_broken : (fault : LineFault) (es : List Entry) (s : Sheet) (reading : Reading) (left : Option (List ℕ)) (taken : ℕ) (old new : Option (List ℕ)) (x : Sitting) (talk : List Talk)
+    → HasTalked x (sitting s reading left taken old) talk → fault ≡ Write → WritesFront (concat (prints_of es)) old new
+    → HasBroken x (sitting s reading left taken new) fault talk (Shown es ∷ [])
+shows_broken fault es s reading left taken old new x talk t why w =
+    talked_broken fault (Showing es) x (sitting s reading left taken old) (sitting s reading left taken new) talk t
+    (subst (λ f. Fails f (Showing es) (sitting s reading left taken old) (sitting s reading left taken new)) (sym why) (shows_fails es s reading left taken old new w))
+
 pub opening_fails : (fault : LineFault) (s : Sheet) (reading : Reading) (left : Option (List ℕ)) (taken : ℕ) (old new : Option (List ℕ)) → s ≡ Blank
     → (fault ≡ Write) ⊎ (fault ≡ OutOfMemory) → Wrote fault (commands Accumulator) old new
     → Fails fault Opening (sitting s reading left taken old) (sitting s reading left taken new)
@@ -223,3 +230,16 @@ said_by None Opens h = absurd h
 said_by None (Takes longs line) h = absurd h
 said_by None Rests h = absurd h
 said_by None (Shows es) h = absurd h
+
+-- nothing was handed out where the bytes that are left are the same
+pub handed_same : (all left : Option (List (List ℕ))) → left ≡ all → HandsOut all left []
+handed_same all left same = subst (λ o. HandsOut all o []) (sym same) (handed_none all)
+
+-- the line that makes the accumulator was handed out
+pub talked_opening : (line : List ℕ) (x y z : Sitting) (talk : List Talk) → HasTalked x y talk → Does Opens y z → line ≡ opening → HasTalked x z (talk ++ Handed line ∷ [])
+talked_opening line x y z talk t d is = subst (λ l. HasTalked x z (talk ++ Handed l ∷ [])) (sym is) (talked_more Opens x y z talk t d)
+
+-- what was asked for was answered
+pub talked_next : (next : Option (List ℕ)) (deed : Deed) (x y z : Sitting) (talk : List Talk) → HasTalked x y talk → IsAskedBy next deed → Does deed y z
+    → HasTalked x z (talk ++ talk_of next)
+talked_next next deed x y z talk t asked d = subst (λ more. HasTalked x z (talk ++ more)) (sym (said_by next deed asked)) (talked_more deed x y z talk t d)

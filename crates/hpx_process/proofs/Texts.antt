@@ -28,7 +28,7 @@ use Rattle.hpx_process.specs.Parts.{IsPart, IsPartBy, IsWhole, Part, part_text}
 
 -- ---- lines that are too long
 
-long_parts : List (List ℕ) → List Part
+abbrev long_parts : List (List ℕ) → List Part
 long_parts longs = map (λ line. record { line = line; entries = [] }) longs
 
 long_lines : (longs : List (List ℕ)) → map (λ p. p.line) (long_parts longs) ≡ longs
@@ -65,7 +65,7 @@ pub record Parted (blocks : List Block) (rest : List Entry) (ds : List Deed) (en
   pub full : end ≡ Full
 
 same_head : {T : Type 0} (x y : T) (xs ys : List T) → x ∷ xs ≡ y ∷ ys → (x ≡ y) × (xs ≡ ys)
-same_head x y xs ys h = cc
+same_head x y xs ys h = (cc, cc)
 
 -- behind the last line entries are shown, and nothing else is done
 shown_last : (rest : List Entry) (ds : List Deed) (end : Sheet) → Shown rest ∷ [] ≡ map talk_by ds → TurnsAll Full ds end → (ds ≡ Shows rest ∷ []) × (end ≡ Full)
@@ -212,7 +212,7 @@ pub whole : (r : Rules) (input : List ℕ) (blocks : List Block) (rest es : List
 whole r input blocks rest es x z blank fresh left is idle all unfed talked =
     let b = begun blocks rest talked.deeds z.sheet talked.said (subst (λ s. TurnsAll s talked.deeds z.sheet) blank talked.turns) all in
     let p = b.parts in
-    let input_is : lines_at x ≡ Some (lines_in (slice_split is_newline input)) = rw (fresh, left) in refl in
+    let input_is : lines_at x ≡ Some (lines_in (slice_split is_newline input)) = rw (fresh, left) refl in
     let others : IfSome talked.others (λ o. before_quit o ≡ []) = subst (λ s. AreLeft s talked.others (lines_at z)) p.full talked.left in
     record {
       first = b.first;

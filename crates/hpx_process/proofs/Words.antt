@@ -56,7 +56,7 @@ none_of false true false h = absurd (let no : true ≡ false = h in cc)
 none_of false false c h = absurd (let no : true ≡ false = h in cc)
 none_of true b c h = absurd (let no : true ≡ false = h in cc)
 
-by_settings : (settings : Settings) → IfSome (membership_of settings) IsMembership
+pub by_settings : (settings : Settings) → IfSome (membership_of settings) IsMembership
 by_settings settings =
     cond_both (settings.journal || not (are_places settings.localities) || not (is_tuned settings.profile)) _ _ (λ o. IfSome o IsMembership)
     (λ e. tt)

@@ -32,46 +32,29 @@ pub enum Answer {
 
 /// Hands a console the lines that are typed, and writes what a person reads: the commands, a prompt before each line, and what is printed.
 #[derive(Drop)]
-pub struct Desk<'s, 'k, S: Source, K: Sink> {
+pub struct Desk<'s, 'k, 'r, S: Source, K: Sink> {
     pub(crate) source: &'s mut S,
     pub(crate) sink: &'k mut K,
-    pub(crate) reader: LineReader,
+    pub(crate) reader: &'r mut LineReader,
     pub(crate) sheet: Sheet,
 }
 
-impl<'s, 'k, S: Source, K: Sink> Desk<'s, 'k, S, K> {
-    /// Nothing was read or written.
-    pub(crate) fn new(alloc: Global, source: &'s mut S, sink: &'k mut K) -> Desk<'s, 'k, S, K>
-        ensures source { result.source.ghost_name ≡ source.entry.ghost_name }
-        ensures sink { result.sink.ghost_name ≡ sink.entry.ghost_name }
-        ensures source_is { result.source.now ≡ source.old }
-        ensures sink_is { result.sink.now ≡ sink.old }
-        ensures reader { result.reader ≡ record { pending = []; read = 0; ended = false } }
-        ensures sheet { result.sheet ≡ Sheet.Blank }
-    {
-        Desk {
-            source,
-            sink,
-            reader: LineReader::new(alloc),
-            sheet: Sheet::Blank,
-        }
-    }
-
+impl<'s, 'k, 'r, S: Source, K: Sink> Desk<'s, 'k, 'r, S, K> {
     /// Writes the commands, and hands out the line by which the accumulator is made.
     fn open(&mut self, alloc: Global) -> Result<Text, LineFault>
         requires sheet { self.old.sheet ≡ Sheet.Blank }
         ensures source { self.new.source.ghost_name ≡ self.old.source.ghost_name }
         ensures sink { self.new.sink.ghost_name ≡ self.old.sink.ghost_name }
         ensures line { IfOk result (λ line. line ≡ opening) }
-        ensures does { let x = sitting self.old.sheet self.old.reader (S.left self.old.source.now) (S.taken self.old.source.now) (K.held self.old.sink.now) in
-            let z = sitting self.new.sheet self.new.reader (S.left self.new.source.now) (S.taken self.new.source.now) (K.held self.new.sink.now) in
+        ensures does { let x = sitting self.old.sheet self.old.reader.now (S.left self.old.source.now) (S.taken self.old.source.now) (K.held self.old.sink.now) in
+            let z = sitting self.new.sheet self.new.reader.now (S.left self.new.source.now) (S.taken self.new.source.now) (K.held self.new.sink.now) in
             OnOk result (Does Opens x z) }
-        ensures fails { let x = sitting self.old.sheet self.old.reader (S.left self.old.source.now) (S.taken self.old.source.now) (K.held self.old.sink.now) in
-            let z = sitting self.new.sheet self.new.reader (S.left self.new.source.now) (S.taken self.new.source.now) (K.held self.new.sink.now) in
+        ensures fails { let x = sitting self.old.sheet self.old.reader.now (S.left self.old.source.now) (S.taken self.old.source.now) (K.held self.old.sink.now) in
+            let z = sitting self.new.sheet self.new.reader.now (S.left self.new.source.now) (S.taken self.new.source.now) (K.held self.new.sink.now) in
             IfErr result (λ fault. Fails fault Opening x z) }
         ensures calm { OnOk result ((S.faults self.new.source.now ≡ S.faults self.old.source.now) × (K.faults self.new.sink.now ≡ K.faults self.old.sink.now)) }
         ensures cause { IfErr result (IsLineCause (S.faults self.old.source.now) (S.faults self.new.source.now) (K.faults self.old.sink.now) (K.faults self.new.sink.now)
-            (self.new.reader.read == 67108864)) }
+            (self.new.reader.now.read == 67108864)) }
     {
         write(self.sink, UserConsole::Accumulator.commands())?;
         match opening(alloc) {
@@ -89,16 +72,16 @@ impl<'s, 'k, S: Source, K: Sink> Desk<'s, 'k, S, K> {
         ensures source { self.new.source.ghost_name ≡ self.old.source.ghost_name }
         ensures sink { self.new.sink.ghost_name ≡ self.old.sink.ghost_name }
         ensures sheet { self.new.sheet ≡ self.old.sheet }
-        ensures types { let x = sitting self.old.sheet self.old.reader (S.left self.old.source.now) (S.taken self.old.source.now) (K.held self.old.sink.now) in
-            let z = sitting self.new.sheet self.new.reader (S.left self.new.source.now) (S.taken self.new.source.now) (K.held self.new.sink.now) in
+        ensures types { let x = sitting self.old.sheet self.old.reader.now (S.left self.old.source.now) (S.taken self.old.source.now) (K.held self.old.sink.now) in
+            let z = sitting self.new.sheet self.new.reader.now (S.left self.new.source.now) (S.taken self.new.source.now) (K.held self.new.sink.now) in
             IfOk result (λ answer. Types answer x z) }
-        ensures fails { let x = sitting self.old.sheet self.old.reader (S.left self.old.source.now) (S.taken self.old.source.now) (K.held self.old.sink.now) in
-            let z = sitting self.new.sheet self.new.reader (S.left self.new.source.now) (S.taken self.new.source.now) (K.held self.new.sink.now) in
+        ensures fails { let x = sitting self.old.sheet self.old.reader.now (S.left self.old.source.now) (S.taken self.old.source.now) (K.held self.old.sink.now) in
+            let z = sitting self.new.sheet self.new.reader.now (S.left self.new.source.now) (S.taken self.new.source.now) (K.held self.new.sink.now) in
             IfErr result (λ fault. (longs lost : List (List ℕ)) × Fails fault (Asking longs lost) x z) }
-        ensures fewer { result ≡ Ok Answer.Long → bytes_left self.new.reader < bytes_left self.old.reader }
+        ensures fewer { result ≡ Ok Answer.Long → bytes_left self.new.reader.now < bytes_left self.old.reader.now }
         ensures calm { OnOk result ((S.faults self.new.source.now ≡ S.faults self.old.source.now) × (K.faults self.new.sink.now ≡ K.faults self.old.sink.now)) }
         ensures cause { IfErr result (IsLineCause (S.faults self.old.source.now) (S.faults self.new.source.now) (K.faults self.old.sink.now) (K.faults self.new.sink.now)
-            (self.new.reader.read == 67108864)) }
+            (self.new.reader.now.read == 67108864)) }
     {
         write(self.sink, PROMPT)?;
         match self.reader.next_line(alloc, self.source) {
@@ -123,15 +106,15 @@ impl<'s, 'k, S: Source, K: Sink> Desk<'s, 'k, S, K> {
         requires sheet { self.old.sheet ≡ Sheet.Open }
         ensures source { self.new.source.ghost_name ≡ self.old.source.ghost_name }
         ensures sink { self.new.sink.ghost_name ≡ self.old.sink.ghost_name }
-        ensures does { let x = sitting self.old.sheet self.old.reader (S.left self.old.source.now) (S.taken self.old.source.now) (K.held self.old.sink.now) in
-            let z = sitting self.new.sheet self.new.reader (S.left self.new.source.now) (S.taken self.new.source.now) (K.held self.new.sink.now) in
+        ensures does { let x = sitting self.old.sheet self.old.reader.now (S.left self.old.source.now) (S.taken self.old.source.now) (K.held self.old.sink.now) in
+            let z = sitting self.new.sheet self.new.reader.now (S.left self.new.source.now) (S.taken self.new.source.now) (K.held self.new.sink.now) in
             IfOk result (λ line. (deed : Deed) × IsAskedBy line deed × Does deed x z) }
-        ensures fails { let x = sitting self.old.sheet self.old.reader (S.left self.old.source.now) (S.taken self.old.source.now) (K.held self.old.sink.now) in
-            let z = sitting self.new.sheet self.new.reader (S.left self.new.source.now) (S.taken self.new.source.now) (K.held self.new.sink.now) in
+        ensures fails { let x = sitting self.old.sheet self.old.reader.now (S.left self.old.source.now) (S.taken self.old.source.now) (K.held self.old.sink.now) in
+            let z = sitting self.new.sheet self.new.reader.now (S.left self.new.source.now) (S.taken self.new.source.now) (K.held self.new.sink.now) in
             IfErr result (λ fault. (longs lost : List (List ℕ)) × Fails fault (Asking longs lost) x z) }
         ensures calm { OnOk result ((S.faults self.new.source.now ≡ S.faults self.old.source.now) × (K.faults self.new.sink.now ≡ K.faults self.old.sink.now)) }
         ensures cause { IfErr result (IsLineCause (S.faults self.old.source.now) (S.faults self.new.source.now) (K.faults self.old.sink.now) (K.faults self.new.sink.now)
-            (self.new.reader.read == 67108864)) }
+            (self.new.reader.now.read == 67108864)) }
     {
         loop {
             match self.take_line(alloc)? {
@@ -146,7 +129,7 @@ impl<'s, 'k, S: Source, K: Sink> Desk<'s, 'k, S, K> {
     }
 }
 
-impl<'s, 'k, S: Source, K: Sink> Lines for Desk<'s, 'k, S, K> {
+impl<'s, 'k, 'r, S: Source, K: Sink> Lines for Desk<'s, 'k, 'r, S, K> {
     ghost use Rattle.std.specs.Prelude.{◌≡◌, ◌==◌};
     ghost use Rattle.hpx_process.specs.Deeds.{HasBroken, HasTalked, sitting};
 
@@ -154,15 +137,15 @@ impl<'s, 'k, S: Source, K: Sink> Lines for Desk<'s, 'k, S, K> {
 
     ghost writes = { λ d. K.faults d.sink.now };
 
-    ghost full = { λ d. d.reader.read == 67108864 };
+    ghost full = { λ d. d.reader.now.read == 67108864 };
 
     ghost went = { λ first now talk. (now.source.ghost_name ≡ first.source.ghost_name) × (now.sink.ghost_name ≡ first.sink.ghost_name)
-        × HasTalked (sitting first.sheet first.reader (S.left first.source.now) (S.taken first.source.now) (K.held first.sink.now))
-        (sitting now.sheet now.reader (S.left now.source.now) (S.taken now.source.now) (K.held now.sink.now)) talk };
+        × HasTalked (sitting first.sheet first.reader.now (S.left first.source.now) (S.taken first.source.now) (K.held first.sink.now))
+        (sitting now.sheet now.reader.now (S.left now.source.now) (S.taken now.source.now) (K.held now.sink.now)) talk };
 
     ghost broke = { λ first now fault talk tried. (now.source.ghost_name ≡ first.source.ghost_name) × (now.sink.ghost_name ≡ first.sink.ghost_name)
-        × HasBroken (sitting first.sheet first.reader (S.left first.source.now) (S.taken first.source.now) (K.held first.sink.now))
-        (sitting now.sheet now.reader (S.left now.source.now) (S.taken now.source.now) (K.held now.sink.now)) fault talk tried };
+        × HasBroken (sitting first.sheet first.reader.now (S.left first.source.now) (S.taken first.source.now) (K.held first.sink.now))
+        (sitting now.sheet now.reader.now (S.left now.source.now) (S.taken now.source.now) (K.held now.sink.now)) fault talk tried };
 
     fn next(&mut self, alloc: Global) -> Result<Option<Text>, LineFault> {
         match self.sheet {

@@ -1,19 +1,22 @@
 //! What a process does as one locality of several.
-ghost use Rattle.std.specs.Prelude.{◌≡◌, ◌≢◌, ◌≤◌, ◌<◌, ◌⊎◌, [], false, ℕ, List, Some, None, option_map};
+ghost use Rattle.std.specs.Prelude.{◌≡◌, ◌≢◌, ◌≤◌, ◌<◌, ◌⊎◌, ◌==◌, [], false, ℕ, List, Some, None, option_map};
 ghost use Rattle.hpx_value.specs.Profiles.{IsValid};
 ghost use Rattle.hpx_ports.specs.Faults.{Rose};
 ghost use Rattle.hpx_ports.specs.declared.link.Post.{Post};
-ghost use Rattle.hpx_member.specs.Leads.{IsConsolesStatus};
+ghost use Rattle.hpx_member.specs.Leads.{HasLineCause, HasServed, IsConsolesStatus};
 ghost use Rattle.hpx_steps.specs.Rest.{rules_of};
 ghost use Rattle.hpx_top.specs.Acts.{act_of};
 ghost use Rattle.hpx_top.specs.Printed.{HasCounted};
 ghost use Rattle.hpx_top.specs.Runs.{ports_of};
 ghost use Rattle.hpx_process.specs.Members.{HasJoined, HasLed, HasMembersCause, HasReckoned, HasSat, IsConsole, IsWorker, left};
+ghost use Rattle.hpx_process.specs.Deeds.{HasBroken, HasTalked, sitting};
 ghost use Rattle.hpx_process.specs.Memberships.{IsMembership, problem_line};
+ghost use Rattle.hpx_process.specs.Slips.{HasPassed, HasStuck, note};
 
 use crate::desk::Desk;
 use crate::membership::{Errand, Membership, Role};
 use crate::problem::Problem;
+use crate::sheet::Sheet;
 use crate::slip::Slip;
 use hpx_counters::counter::Counter;
 use hpx_member::console::console;
@@ -24,6 +27,7 @@ use hpx_ports::sink::Sink;
 use hpx_ports::source::Source;
 use hpx_top::acts::AllActs;
 use hpx_top::printed::write_values;
+use hpx_top::reader::LineReader;
 use std::alloc::Global;
 use std::sync::Wait;
 
@@ -43,6 +47,35 @@ fn status_of(fault: LinkFault) -> u8
         LinkFault::Failed => 4,
         LinkFault::OutOfMemory => 6,
     }
+}
+
+/// A console at a desk.
+fn sit<R: Wait, L: Link + Drop, S: Source, K: Sink>(
+    rt: &R,
+    alloc: Global,
+    membership: &Membership,
+    settles: bool,
+    link: L,
+    desk: &mut Desk<S, K>,
+) -> MemberEnd<AllActs, L>
+    requires some { 1 ≤ membership.now.localities }
+    requires few { membership.now.localities ≤ 64 }
+    requires profile { IsValid membership.now.profile }
+    requires empty { (tr : List Post) → L.trace link ≡ Some tr → tr ≡ [] }
+    requires faultless { L.faults link ≡ 0 }
+    requires blank { desk.old.sheet ≡ Sheet.Blank }
+    ensures source { desk.new.source.ghost_name ≡ desk.old.source.ghost_name }
+    ensures sink { desk.new.sink.ghost_name ≡ desk.old.sink.ghost_name }
+    ensures console { IsConsole membership.now.localities membership.now.profile settles (left result.status (option_map (λ n. n.tables) result.node) result.journal.entries result.fault (L.trace result.link) (L.latest result.link) (L.faults result.link)) }
+    ensures served { let x = sitting desk.old.sheet desk.old.reader.now (S.left desk.old.source.now) (S.taken desk.old.source.now) (K.held desk.old.sink.now) in
+        let z = sitting desk.new.sheet desk.new.reader.now (S.left desk.new.source.now) (S.taken desk.new.source.now) (K.held desk.new.sink.now) in
+        HasServed (rules_of act_of membership.now.localities membership.now.profile) result.status result.journal.entries (HasTalked x z) (HasBroken x z) }
+    ensures lines { HasLineCause result.status (S.faults desk.old.source.now) (S.faults desk.new.source.now) (K.faults desk.old.sink.now) (K.faults desk.new.sink.now) (desk.new.reader.now.read == 67108864) }
+{
+    let acts = AllActs {
+        localities: membership.localities,
+    };
+    console(rt, alloc, acts, membership.profile, settles, link, desk)
 }
 
 /// The console of a session.
@@ -68,19 +101,42 @@ fn serve<R: Wait, L: Link + Drop, S: Source, K: Sink>(
         let z = ports_of (S.left source.new) (S.taken source.new) (K.held sink.new) (S.faults source.new) (K.faults sink.new) 0 in
         HasMembersCause result.status (L.faults result.link) x z }
 {
+    let mut reader = LineReader::new(alloc);
+    let mut desk = Desk {
+        source,
+        sink,
+        reader: &mut reader,
+        sheet: Sheet::Blank,
+    };
+    sit(rt, alloc, membership, settles, link, &mut desk)
+}
+
+/// A console with a slip.
+fn pass<R: Wait, L: Link + Drop, K: Sink>(
+    rt: &R,
+    alloc: Global,
+    membership: &Membership,
+    settles: bool,
+    link: L,
+    slip: &mut Slip<K>,
+) -> MemberEnd<AllActs, L>
+    requires some { 1 ≤ membership.now.localities }
+    requires few { membership.now.localities ≤ 64 }
+    requires profile { IsValid membership.now.profile }
+    requires empty { (tr : List Post) → L.trace link ≡ Some tr → tr ≡ [] }
+    requires faultless { L.faults link ≡ 0 }
+    ensures sink { slip.new.sink.ghost_name ≡ slip.old.sink.ghost_name }
+    ensures console { IsConsole membership.now.localities membership.now.profile settles (left result.status (option_map (λ n. n.tables) result.node) result.journal.entries result.fault (L.trace result.link) (L.latest result.link) (L.faults result.link)) }
+    ensures served { let x = note slip.old.asked (K.held slip.old.sink.now) in
+        let z = note slip.new.asked (K.held slip.new.sink.now) in
+        HasServed (rules_of act_of membership.now.localities membership.now.profile) result.status result.journal.entries
+        (HasPassed (problem_line slip.old.problem) x z) (HasStuck (problem_line slip.old.problem) x z) }
+    ensures lines { HasLineCause result.status 0 0 (K.faults slip.old.sink.now) (K.faults slip.new.sink.now) false }
+{
     let acts = AllActs {
         localities: membership.localities,
     };
-    let mut desk = Desk::new(alloc, source, sink);
-    console(
-        rt,
-        alloc,
-        acts,
-        membership.profile,
-        settles,
-        link,
-        &mut desk,
-    )
+    console(rt, alloc, acts, membership.profile, settles, link, slip)
 }
 
 /// The console of processes that compute. It has no source.
@@ -107,19 +163,12 @@ fn reckon<R: Wait, L: Link + Drop, K: Sink>(
         HasMembersCause result.status (L.faults result.link) x z }
     ensures no_read { (result.status ≢ 2) × (result.status ≢ 9) }
 {
-    let acts = AllActs {
-        localities: membership.localities,
+    let mut slip = Slip {
+        problem,
+        asked: false,
+        sink,
     };
-    let mut slip = Slip::new(problem, sink);
-    console(
-        rt,
-        alloc,
-        acts,
-        membership.profile,
-        settles,
-        link,
-        &mut slip,
-    )
+    pass(rt, alloc, membership, settles, link, &mut slip)
 }
 
 /// Another locality than the console.

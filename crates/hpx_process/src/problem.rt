@@ -1,5 +1,7 @@
 //! What can be asked in one line.
 ghost use Rattle.std.specs.Prelude.{◌≡◌, ◌∷◌, ◌≤◌, IfOk, length};
+ghost use Rattle.app_compute.specs.Lines.{fib_line};
+ghost use Rattle.app_compute.specs.Stencil.{stencil_line};
 ghost use Rattle.hpx_process.specs.Memberships.{problem_line};
 
 use app_compute::line::{Question, fib_line};
@@ -19,14 +21,31 @@ pub enum Problem {
     Ring(Shape),
 }
 
+/// The line that asks for a Fibonacci number.
+fn number_line(alloc: Global, number: u32, threshold: u32) -> Result<Text, OutOfMemory>
+    ensures line { IfOk result (λ line. line ≡ fib_line number threshold) }
+    ensures short { IfOk result (λ line. length line ≤ 1024) }
+{
+    fib_line(alloc, number, threshold)
+}
+
+/// The line that asks for a ring.
+fn ring_line(alloc: Global, points: u32, parts: u32, steps: u32) -> Result<Text, OutOfMemory>
+    ensures line { IfOk result (λ line. line ≡ stencil_line points parts steps) }
+    ensures short { IfOk result (λ line. length line ≤ 1024) }
+{
+    stencil_line(alloc, points, parts, steps)
+}
+
 impl Problem {
     /// The line that asks for it.
     fn asked(self, alloc: Global) -> Result<Text, OutOfMemory>
-        ensures { IfOk result (λ line. problem_line self ≡ 99 ∷ line) }
+        ensures line { IfOk result (λ line. problem_line self ≡ 99 ∷ line) }
+        ensures short { IfOk result (λ line. length line ≤ 1024) }
     {
         match self {
-            Problem::Number(question) => fib_line(alloc, question.number, question.threshold),
-            Problem::Ring(shape) => stencil_line(alloc, shape.points, shape.parts, shape.steps),
+            Problem::Number(question) => number_line(alloc, question.number, question.threshold),
+            Problem::Ring(shape) => ring_line(alloc, shape.points, shape.parts, shape.steps),
         }
     }
 

@@ -1,6 +1,4 @@
 //! A slip: the one question of processes that compute.
-ghost use Rattle.std.specs.Prelude.{◌≡◌, false};
-
 use crate::problem::Problem;
 use crate::show::show;
 use hpx_journal::journal::Journal;
@@ -16,22 +14,6 @@ pub struct Slip<'k, K: Sink> {
     pub(crate) problem: Problem,
     pub(crate) asked: bool,
     pub(crate) sink: &'k mut K,
-}
-
-impl<'k, K: Sink> Slip<'k, K> {
-    /// Nothing was asked.
-    pub(crate) fn new(problem: Problem, sink: &'k mut K) -> Slip<'k, K>
-        ensures sink { result.sink.ghost_name ≡ sink.entry.ghost_name }
-        ensures sink_is { result.sink.now ≡ sink.old }
-        ensures problem { result.problem ≡ problem }
-        ensures asked { result.asked ≡ false }
-    {
-        Slip {
-            problem,
-            asked: false,
-            sink,
-        }
-    }
 }
 
 impl<'k, K: Sink> Lines for Slip<'k, K> {
