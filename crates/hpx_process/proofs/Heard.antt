@@ -1,13 +1,13 @@
 -- What the members of a session leave, put together.
-use Rattle.std.specs.Prelude.{suc, zero, ◌+◌, ◌≤◌, ◌<◌, ◌≢◌, ◌⊎◌, IfSome, drop, length}
+use Rattle.std.specs.Prelude.{suc, zero, ◌+◌, ◌≤◌, ◌<◌, IfSome, drop, length}
 use Rattle.std.specs.List.{concat, flat_map, AllByRecursion}
 use Rattle.std.proofs.Common.{ℕ, Bool, List, [], ◌∷◌, ◌++◌, ◌≡◌, Option, Some, None, refl, sym, ap, ◌∙◌, subst, arith, inl, inr, map, append-nil, append_assoc}
 use Rattle.hpx_value.specs.declared.profile.Profile.{Profile}
 use Rattle.hpx_journal.specs.Entries.{Rules}
 use Rattle.hpx_journal.specs.Foreign.{NodeKeeps}
-use Rattle.hpx_journal.specs.Laws.{RefusesForCause, count_events, is_failed, is_refused_count}
+use Rattle.hpx_journal.specs.Laws.{RefusesForCause, count_events, is_refused_count}
 use Rattle.hpx_journal.specs.Pool.{NoneFails, prints_of}
-use Rattle.hpx_journal.specs.Sessions.{FeedsNothing, entries_of, shown}
+use Rattle.hpx_journal.specs.Sessions.{FeedsNothing, entries_of}
 use Rattle.hpx_journal.specs.Whole.{IsClean, IsJoin, IsLegal, IsQuiet, part, replayed, run_local}
 use Rattle.hpx_journal.proofs.Failures.{legal_refusals}
 use Rattle.hpx_journal.proofs.Grow.{part_at}

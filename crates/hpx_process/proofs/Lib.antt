@@ -9,3 +9,4 @@ pub mod Short
 pub mod Heard
 pub mod Unsent
 pub mod Said
+pub mod Led

@@ -1,11 +1,10 @@
 -- Prompt after prompt.
-use Rattle.std.specs.Prelude.{◌||◌, ◌≢◌, ◌+◌, ◌≤◌, IfSome, length}
-use Rattle.std.specs.List.{flat_map, list_any, AllByRecursion}
-use Rattle.std.proofs.Common.{ℕ, Bool, true, false, List, [], ◌∷◌, ◌++◌, ◌≡◌, Option, Some, None, map, refl, sym, ap, ◌∙◌, subst, arith, append-nil, append_assoc, inl, inr}
+use Rattle.std.specs.Prelude.{◌||◌, IfSome}
+use Rattle.std.proofs.Common.{ℕ, true, false, List, [], ◌∷◌, ◌++◌, ◌≡◌, Option, Some, None, refl, sym, ap, ◌∙◌, subst, append-nil, append_assoc}
 use Rattle.std.proofs.lemmas.List.Concat.{flat_map-append}
 use Rattle.hpx_ports.specs.Told.{followed, preceded}
 use Rattle.app_console.specs.Console.{prompt}
-use Rattle.app_console.specs.Lines.{IsFront, is_long, is_quit, before_quit}
+use Rattle.app_console.specs.Lines.{is_long, before_quit}
 use Rattle.app_console.specs.Text.{too_long}
 use Rattle.hpx_member.specs.declared.lines.LineFault.{LineFault}
 use Rattle.hpx_member.specs.declared.lines.LineFault.TheVariants.{Read, Write, OutOfMemory, InputFull}
@@ -13,9 +12,9 @@ use Rattle.hpx_top.specs.Reader.{TakesLine, TakesLong, TakesQuit}
 use Rattle.hpx_top.specs.Session.{HandsOut, WritesFront}
 use Rattle.hpx_top.proofs.LineLemmas.{followed_nothing, followed_twice, long_goes_on}
 use Rattle.hpx_process.specs.declared.sheet.Sheet.{Sheet}
-use Rattle.hpx_process.specs.declared.sheet.Sheet.TheVariants.{Blank, Open, Full}
+use Rattle.hpx_process.specs.declared.sheet.Sheet.TheVariants.{Open, Full}
 use Rattle.hpx_process.specs.Asked.{HasTyped, TypesLine, TypesLong, TypesNone}
-use Rattle.hpx_process.specs.Deeds.{AreLeft, AreLong, Asking, Breaks, Does, Ends, Fails, MayLose, Reads, Sitting, Takes, Wrote, lines_at, longs_text, sitting}
+use Rattle.hpx_process.specs.Deeds.{AreLong, Asking, Breaks, Does, Ends, Fails, MayLose, Reads, Sitting, Takes, Wrote, lines_at, longs_text, sitting}
 use Rattle.hpx_top.specs.Reader.{Reading}
 use Rattle.hpx_process.proofs.Talking.{handed_more, handed_none, reads_more, reads_none}
 
@@ -157,9 +156,12 @@ pub prompt_unwritten : (fault : LineFault) (s : Sheet) (reading : Reading) (left
     → WritesFront prompt old new → (longs lost : List (List ℕ)) × Fails fault (Asking longs lost) (sitting s reading left taken old) (sitting s reading left taken new)
 prompt_unwritten fault s reading left taken old new at_open why w =
     let x = sitting s reading left taken old in
-    let z = sitting s reading left taken new in
-    ([], [], subst (λ f. Fails f (Asking [] []) x z) (sym why)
-    (prompt_fails Write [] x z at_open refl refl w (handed_none (lines_at x)) (record { next = λ all h. h; counted = refl })))
+    let z = sitting s reading left taken new in (
+      [],
+      [],
+      subst (λ f. Fails f (Asking [] []) x z) (sym why)
+          (prompt_fails Write [] x z at_open refl refl w (handed_none (lines_at x)) (record { next = λ all h. h; counted = refl })),
+    )
 
 pub error_unwritten : (fault : LineFault) (line : List ℕ) (x z : Sitting) (mid : Option (List ℕ)) → x.sheet ≡ Open → z.sheet ≡ x.sheet → fault ≡ Write → is_long line ≡ true
     → mid ≡ followed x.text prompt → WritesFront too_long mid z.text → HandsOut (lines_at x) (lines_at z) (line ∷ []) → Reads x z

@@ -1,18 +1,18 @@
 -- What the accumulator's console of several processes wrote is what one plain space says.
-use Rattle.std.specs.Prelude.{if◌then◌else◌, ◌+◌, ◌≤◌, ◌<◌, length}
+use Rattle.std.specs.Prelude.{if◌then◌else◌}
 use Rattle.std.specs.List.{concat, flat_map, AllByRecursion}
-use Rattle.std.proofs.Common.{ℕ, Bool, true, false, List, [], ◌∷◌, ◌++◌, ◌≡◌, Option, Some, refl, sym, ap, ◌∙◌, subst, map, append-nil, append_assoc}
+use Rattle.std.proofs.Common.{ℕ, Bool, true, false, List, [], ◌∷◌, ◌++◌, ◌≡◌, refl, ap, ◌∙◌, map, append-nil, append_assoc}
 use Rattle.hpx_journal.specs.Entries.{Rules}
 use Rattle.hpx_journal.specs.Local.{after}
 use Rattle.hpx_journal.specs.Pool.{prints_of}
-use Rattle.hpx_journal.specs.Sessions.{BeginsWith, entries_of, shown}
-use Rattle.hpx_journal.specs.Whole.{IsClean, run_local}
+use Rattle.hpx_journal.specs.Sessions.{entries_of, shown}
+use Rattle.hpx_journal.specs.Whole.{IsClean}
 use Rattle.hpx_journal.specs.declared.local.Local.{Local}
 use Rattle.hpx_part.specs.Data.{Entry, Event, Line}
 use Rattle.hpx_patient.specs.Patient.{AreBlocks, FeedsReady, IfLine as IfReady, IsReady}
 use Rattle.hpx_member.specs.Feeding.{FeedsIdle, IfLine, IsIdle}
 use Rattle.app_console.specs.Console.{prompt}
-use Rattle.app_console.specs.Lines.{first_of, is_long, opening, others_of}
+use Rattle.app_console.specs.Lines.{first_of, is_long, others_of}
 use Rattle.app_console.specs.Text.{marked, too_long, written}
 use Rattle.hpx_process.specs.Parts.{IsPart, IsPartBy, Part, part_text}
 
@@ -63,7 +63,7 @@ blocks_entries (p ∷ ps) h = ap (λ es. p.entries ++ es) (blocks_entries ps h.1
 one_text : (b : Bool) (line : List ℕ) (entries : List Entry) (lines : List (List ℕ)) (blocks : List (List Entry)) → IsPartBy b line entries
     → (prompt ++ (concat (prints_of entries) ++ (if b then too_long else []))) ++ written lines (shown blocks)
     ≡ (if b then prompt ++ (too_long ++ written lines (shown (if b then blocks else entries ∷ blocks)))
-      else prompt ++ (first_of (shown (if b then blocks else entries ∷ blocks)) ++ written lines (others_of (shown (if b then blocks else entries ∷ blocks)))))
+    else prompt ++ (first_of (shown (if b then blocks else entries ∷ blocks)) ++ written lines (others_of (shown (if b then blocks else entries ∷ blocks)))))
 one_text true line entries lines blocks h =
     ap (λ es. (prompt ++ (concat (prints_of es) ++ too_long)) ++ written lines (shown blocks)) h ∙ append_assoc prompt too_long (written lines (shown blocks))
 one_text false line entries lines blocks h =

@@ -1,12 +1,11 @@
 -- What a console left at its desk, and by its slip.
-use Rattle.std.specs.Prelude.{◌≢◌, ◌+◌, ◌⊎◌, ◌==◌, IfSome}
-use Rattle.std.specs.List.{concat, flat_map, AllByRecursion}
+use Rattle.std.specs.Prelude.{◌+◌, ◌⊎◌, ◌==◌}
+use Rattle.std.specs.List.{concat, AllByRecursion}
 use Rattle.std.proofs.Common.{ℕ, Bool, true, false, List, [], ◌∷◌, ◌++◌, ◌≡◌, Option, Some, None, map, refl, sym, ap, ◌∙◌, subst, arith, append-nil, append_assoc, inl, inr}
 use Rattle.std.proofs.lemmas.Bool.{eqb-true}
 use Rattle.std.proofs.lemmas.List.Concat.{flat_map-append}
 use Rattle.hpx_journal.specs.Entries.{Rules}
 use Rattle.hpx_journal.specs.Pool.{prints_of}
-use Rattle.hpx_journal.specs.Sessions.{BeginsWith, FeedsNothing}
 use Rattle.hpx_part.specs.Data.{Entry}
 use Rattle.hpx_ports.specs.Told.{followed}
 use Rattle.hpx_value.specs.declared.profile.Profile.{Profile}
@@ -233,14 +232,14 @@ at_first x = sitting Blank (record { pending = []; read = 0; ended = false }) x.
 from_desk : (r : Rules) (status : ℕ) (es : List Entry) (s : Sheet) (reading : Reading) (left : Option (List ℕ)) (taken : ℕ) (text : Option (List ℕ)) (z : Sitting) → s ≡ Blank
     → reading ≡ record { pending = []; read = 0; ended = false } → HasServed r status es (HasTalked (sitting s reading left taken text) z) (HasBroken (sitting s reading left taken text) z)
     → HasServed r status es (HasTalked (sitting Blank (record { pending = []; read = 0; ended = false }) left taken text) z)
-      (HasBroken (sitting Blank (record { pending = []; read = 0; ended = false }) left taken text) z)
+    (HasBroken (sitting Blank (record { pending = []; read = 0; ended = false }) left taken text) z)
 from_desk r status es s reading left taken text z blank fresh served =
     subst (λ q. HasServed r status es (HasTalked (sitting Blank q left taken text) z) (HasBroken (sitting Blank q left taken text) z)) fresh
     (subst (λ a. HasServed r status es (HasTalked (sitting a reading left taken text) z) (HasBroken (sitting a reading left taken text) z)) blank served)
 
 pub sat : (r : Rules) (m : Left) (x z : Ports) (s sheet : Sheet) (first reading : Reading) → s ≡ Blank → first ≡ record { pending = []; read = 0; ended = false }
     → HasServed r m.status m.entries (HasTalked (sitting s first x.left x.taken x.text) (sitting sheet reading z.left z.taken z.text))
-      (HasBroken (sitting s first x.left x.taken x.text) (sitting sheet reading z.left z.taken z.text))
+    (HasBroken (sitting s first x.left x.taken x.text) (sitting sheet reading z.left z.taken z.text))
     → HasSat r m x z
 sat r m x z s sheet first reading blank fresh served =
     let end = sitting sheet reading z.left z.taken z.text in
@@ -256,7 +255,7 @@ sat r m x z s sheet first reading blank fresh served =
 pub sat_cause : (n : ℕ) (p : Profile) (settles : Bool) (r : Rules) (m : Left) (x z : Ports) (s sheet : Sheet) (first reading : Reading) → s ≡ Blank
     → first ≡ record { pending = []; read = 0; ended = false }
     → HasServed r m.status m.entries (HasTalked (sitting s first x.left x.taken x.text) (sitting sheet reading z.left z.taken z.text))
-      (HasBroken (sitting s first x.left x.taken x.text) (sitting sheet reading z.left z.taken z.text))
+    (HasBroken (sitting s first x.left x.taken x.text) (sitting sheet reading z.left z.taken z.text))
     → IsConsole n p settles m → HasLineCause m.status x.read_faults z.read_faults x.write_faults z.write_faults (reading.read == 67108864) → z.frame_faults ≡ x.frame_faults
     → HasMembersCause m.status m.faults x z
 sat_cause n p settles r m x z s sheet first reading blank fresh served console lines same =

@@ -1,14 +1,14 @@
 -- Deed after deed.
-use Rattle.std.specs.Prelude.{◌||◌, ◌≢◌, ◌+◌, ◌⊎◌, IfSome}
+use Rattle.std.specs.Prelude.{◌||◌, ◌≢◌, ◌⊎◌}
 use Rattle.std.specs.List.{concat, flat_map, list_any}
-use Rattle.std.proofs.Common.{ℕ, Bool, true, false, List, [], ◌∷◌, ◌++◌, ◌≡◌, Option, Some, None, map, refl, sym, ap, ◌∙◌, subst, arith, append-nil, append_assoc, inl, inr}
+use Rattle.std.proofs.Common.{ℕ, List, [], ◌∷◌, ◌++◌, ◌≡◌, Option, Some, None, refl, sym, ap, ◌∙◌, subst, arith, append-nil}
 use Rattle.std.proofs.lemmas.List.{map-append}
 use Rattle.std.proofs.lemmas.List.Concat.{flat_map-append}
 use Rattle.std.proofs.lemmas.List.Folds.{list_any-append}
 use Rattle.hpx_journal.specs.Pool.{prints_of}
 use Rattle.hpx_part.specs.Data.{Entry}
 use Rattle.hpx_ports.specs.Told.{followed, preceded}
-use Rattle.app_console.specs.Lines.{is_quit, before_quit, opening}
+use Rattle.app_console.specs.Lines.{is_quit, opening}
 use Rattle.hpx_member.specs.Talks.{Talk, Handed, Shown, talk_of}
 use Rattle.hpx_member.specs.declared.lines.LineFault.{LineFault}
 use Rattle.hpx_member.specs.declared.lines.LineFault.TheVariants.{Write, OutOfMemory}

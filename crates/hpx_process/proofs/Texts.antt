@@ -1,28 +1,26 @@
 -- The whole text of a session, by its deeds and by the blocks of its journal.
-use Rattle.std.specs.Prelude.{◌≢◌, IfSome, if◌then◌else◌}
-use Rattle.std.specs.List.{concat, flat_map, list_any, slice_split, AllByRecursion}
-use Rattle.std.specs.Option.{option_map}
-use Rattle.std.proofs.Common.{ℕ, Bool, true, false, List, [], ◌∷◌, ◌++◌, ◌≡◌, Option, Some, None, map, refl, sym, ap, ◌∙◌, subst, append-nil, append_assoc}
+use Rattle.std.specs.Prelude.{IfSome, if◌then◌else◌}
+use Rattle.std.specs.List.{concat, flat_map, slice_split, AllByRecursion}
+use Rattle.std.proofs.Common.{ℕ, false, List, [], ◌∷◌, ◌++◌, ◌≡◌, Option, Some, map, refl, sym, ap, ◌∙◌, subst, append-nil, append_assoc}
 use Rattle.std.proofs.lemmas.List.{map-append}
 use Rattle.std.proofs.lemmas.List.Concat.{flat_map-append}
 use Rattle.hpx_journal.specs.Entries.{Rules}
 use Rattle.hpx_journal.specs.Pool.{prints_of}
 use Rattle.hpx_journal.specs.Sessions.{BeginsWith, FeedsNothing}
 use Rattle.hpx_part.specs.Data.{Entry}
-use Rattle.hpx_ports.specs.Told.{followed, preceded}
+use Rattle.hpx_ports.specs.Told.{followed}
 use Rattle.app_console.specs.Console.{prompt}
-use Rattle.app_console.specs.Lines.{before_quit, is_long, is_newline, is_quit, lines_in, lines_of, opening}
+use Rattle.app_console.specs.Lines.{before_quit, is_long, is_newline, lines_in, lines_of, opening}
 use Rattle.app_console.specs.Text.{too_long}
 use Rattle.hpx_member.specs.Serves.{IsIdleBehind, Block, IsBlock, entries_in, talk_in}
-use Rattle.hpx_member.specs.Talks.{Talk, Handed, Over, Shown}
+use Rattle.hpx_member.specs.Talks.{Handed, Over, Shown}
 use Rattle.hpx_top.specs.Session.{HandsOut}
 use Rattle.hpx_top.specs.Texts.{commands}
 use Rattle.hpx_top.specs.declared.consoles.UserConsole.TheVariants.{Accumulator}
 use Rattle.hpx_top.proofs.LineLemmas.{before_quit_append, told_rest}
-use Rattle.hpx_top.proofs.ReaderLemmas.{lines_left-start}
 use Rattle.hpx_process.specs.declared.sheet.Sheet.{Sheet}
 use Rattle.hpx_process.specs.declared.sheet.Sheet.TheVariants.{Blank, Open, Full}
-use Rattle.hpx_process.specs.Deeds.{AreLeft, AreLong, Deed, Ends, HasTalked, Opens, Rests, Shows, Sitting, Takes, Turns, TurnsAll, lines_at, lines_by, longs_text, talk_by, text_by}
+use Rattle.hpx_process.specs.Deeds.{AreLeft, AreLong, Deed, Ends, HasTalked, Opens, Rests, Shows, Sitting, Takes, TurnsAll, lines_at, lines_by, longs_text, talk_by, text_by}
 use Rattle.hpx_process.proofs.Talking.{turn_shown}
 use Rattle.hpx_process.specs.Parts.{IsPart, IsPartBy, IsWhole, Part, part_text}
 
@@ -118,9 +116,9 @@ taken b blocks rest longs line ds end is block long short more =
       texts = ap (λ t. (longs_text longs ++ prompt) ++ (concat (prints_of b.entries) ++ t)) more.texts
           ∙ (regroup_more (longs_text longs) prompt (concat (prints_of b.entries)) (flat_map part_text more.parts) (prompt ++ concat (prints_of rest))
           ∙ ap (λ t. t ++ (prompt ++ concat (prints_of rest)))
-            (ap (λ t. t ++ ((prompt ++ (concat (prints_of b.entries) ++ [])) ++ flat_map part_text more.parts)) (long_texts longs long)
-            ∙ (ap (λ c. flat_map part_text (long_parts longs) ++ ((prompt ++ (concat (prints_of b.entries) ++ (if c then too_long else []))) ++ flat_map part_text more.parts)) (sym short)
-            ∙ sym (flat_map-append part_text (long_parts longs) (part ∷ more.parts)))));
+          (ap (λ t. t ++ ((prompt ++ (concat (prints_of b.entries) ++ [])) ++ flat_map part_text more.parts)) (long_texts longs long)
+          ∙ (ap (λ c. flat_map part_text (long_parts longs) ++ ((prompt ++ (concat (prints_of b.entries) ++ (if c then too_long else []))) ++ flat_map part_text more.parts)) (sym short)
+          ∙ sym (flat_map-append part_text (long_parts longs) (part ∷ more.parts)))));
       full = more.full;
     }
 
@@ -204,7 +202,6 @@ typed_all input all others lines is h last =
     let rest = told_rest (lines_in (slice_split is_newline input)) lines others (sym is ∙ h.first) in
     let none : before_quit rest.0 ≡ [] = subst (λ o. IfSome o (λ o. before_quit o ≡ [])) rest.1 last in
     sym (append-nil lines) ∙ (ap (λ l. lines ++ l) (sym none) ∙ (sym (before_quit_append lines rest.0 h.goes_on) ∙ ap before_quit (sym rest.2)))
-
 
 pub whole : (r : Rules) (input : List ℕ) (blocks : List Block) (rest es : List Entry) (x z : Sitting) → x.sheet ≡ Blank → x.reading ≡ record { pending = []; read = 0; ended = false } → x.left ≡ Some input
     → es ≡ entries_in blocks ++ rest → IsIdleBehind r (entries_in blocks) → AllByRecursion IsBlock blocks → AllByRecursion (λ e. FeedsNothing e.event) rest

@@ -1,12 +1,12 @@
 -- An action on the session does not go on from locality 0: that is its home, and it has no record there.
-use Rattle.std.proofs.Common.{ℕ, Bool, true, false, cond, List, [], ◌∷◌, ◌++◌, ◌≡◌, ◌≢◌, ◌+◌, ◌<◌, ◌≤◌, Option, Some, None, refl, sym, ap, ◌∙◌, subst, arith, inl, inr, map, append_assoc}
-use Rattle.std.specs.Prelude.{◌==◌, ◌&&◌}
-use Rattle.std.specs.List.{find, AllByRecursion}
+use Rattle.std.proofs.Common.{ℕ, true, false, List, [], ◌∷◌, ◌++◌, ◌≡◌, ◌≢◌, ◌<◌, ◌≤◌, Some, None, refl, sym, ap, ◌∙◌, subst, arith, inl, inr, map, append_assoc}
+use Rattle.std.specs.Prelude.{◌==◌}
+use Rattle.std.specs.List.{AllByRecursion}
 use Rattle.std.proofs.lemmas.Bool.{eqb-true}
 use Rattle.hpx_value.specs.Ids.{Id, same_object, bare}
 use Rattle.hpx_value.specs.Values.{bare_act, message_of}
 use Rattle.hpx_value.specs.Hands.{session, id_at}
-use Rattle.hpx_journal.specs.Data.{Act, State, Parcel, Apply, Return, Ask, Give, Cached, Move, Go, Shipped, Arrived, Free}
+use Rattle.hpx_journal.specs.Data.{Act, Parcel, Apply, Move, Go, Shipped}
 use Rattle.hpx_journal.specs.Entries.{Rules, target_of, move_to}
 use Rattle.hpx_journal.specs.declared.entry.Reason.TheVariants.{Returned, Granted, Refused}
 use Rattle.hpx_journal.specs.Frames.{acts_in}

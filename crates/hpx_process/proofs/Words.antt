@@ -1,6 +1,6 @@
 -- The membership that words ask for is in range.
-use Rattle.std.specs.Prelude.{true, false, not, nat_le, nat_lt, ◌&&◌, ◌||◌, IfSome, option_map, option_and_then, if◌then◌else◌}
-use Rattle.std.proofs.Common.{ℕ, Bool, List, ◌≡◌, ◌≤◌, Option, Some, None, refl, sym, ap, ◌∙◌, subst}
+use Rattle.std.specs.Prelude.{true, false, not, nat_le, nat_lt, ◌&&◌, ◌||◌, IfSome, option_map, option_and_then}
+use Rattle.std.proofs.Common.{ℕ, Bool, List, ◌≡◌, ◌≤◌, Option, Some, None, refl, ap}
 use Rattle.std.proofs.lemmas.Bool.{and_parts, cond_both, leb-true, ltb-true}
 use Rattle.hpx_value.specs.Profiles.{IsValid}
 use Rattle.hpx_options.specs.Meanings.{Reading, Means, BadWord, reading_of}

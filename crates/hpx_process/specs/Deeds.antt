@@ -1,5 +1,5 @@
 -- What a desk does: it hands out the lines of a session, and writes what a person reads.
-use Rattle.std.specs.Prelude.{ℕ, Bool, true, false, Option, IfSome, List, [], ◌∷◌, ◌++◌, ◌≡◌, ◌≢◌, ◌≤◌, ◌+◌, ◌⊎◌, length, map}
+use Rattle.std.specs.Prelude.{ℕ, true, false, Option, IfSome, List, [], ◌∷◌, ◌++◌, ◌≡◌, ◌≢◌, ◌≤◌, ◌+◌, ◌⊎◌, length, map}
 use Rattle.std.specs.List.{concat, flat_map, AllByRecursion}
 use Rattle.hpx_journal.specs.Pool.{prints_of}
 use Rattle.hpx_part.specs.Data.{Entry}

@@ -1,5 +1,5 @@
 -- The membership that words ask for.
-use Rattle.std.specs.Prelude.{ℕ, Bool, true, false, not, ◌&&◌, ◌||◌, nat_le, nat_lt, List, Option, Some, None, option_map, option_and_then, ◌≤◌, ◌<◌, if◌then◌else◌}
+use Rattle.std.specs.Prelude.{ℕ, Bool, not, ◌&&◌, ◌||◌, nat_le, nat_lt, List, Option, Some, None, option_map, option_and_then, ◌≤◌, ◌<◌, if◌then◌else◌}
 use Rattle.hpx_value.specs.Profiles.{IsValid}
 use Rattle.hpx_options.specs.Meanings.{Reading, Means, BadWord, reading_of}
 use Rattle.hpx_options.specs.declared.settings.Mode.{Mode}

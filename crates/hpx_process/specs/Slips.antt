@@ -1,6 +1,6 @@
 -- What a slip does: it hands out one line, and writes what is printed.
 use Rattle.std.specs.Prelude.{ℕ, Bool, true, false, Option, List, [], ◌∷◌, ◌++◌, ◌≡◌}
-use Rattle.std.specs.List.{concat, flat_map, Contains}
+use Rattle.std.specs.List.{concat, flat_map}
 use Rattle.hpx_journal.specs.Pool.{prints_of}
 use Rattle.hpx_part.specs.Data.{Entry}
 use Rattle.hpx_ports.specs.Told.{followed}

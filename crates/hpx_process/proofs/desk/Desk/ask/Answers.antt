@@ -36,6 +36,9 @@ loop-line-preserved g c =
 pub returns-in-Over-clause-does : goal.returns-in-Over-clause-does
 returns-in-Over-clause-does g c =
     let t = c.loop-line.invariant.typed in
-    let types = rw c.in-Over.is at c.in_ok-line.ensures.types in
-    (Ends t.0, tt, ends_lines t.0 _ _ _ c.requires.sheet t.1 (record { last = types.by.last; written = types.by.written }) refl
-    (record { next = types.reads.next; counted = types.reads.counted }))
+    let types = rw c.in-Over.is at c.in_ok-line.ensures.types in (
+      Ends t.0,
+      tt,
+      ends_lines t.0 _ _ _ c.requires.sheet t.1 (record { last = types.by.last; written = types.by.written }) refl
+          (record { next = types.reads.next; counted = types.reads.counted }),
+    )

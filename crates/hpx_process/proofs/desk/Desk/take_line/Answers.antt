@@ -19,9 +19,12 @@ returns-in_err-write-clause-fails g c =
 
 pub returns-in-Ok-Line-clause-fails : goal.returns-in-Ok-Line-clause-fails
 returns-in-Ok-Line-clause-fails g c =
-    let takes = rw c.in-Ok-Line.field-0-is at c.in-Ok-Line.ensures.ok in
-    ([], _ ∷ [], prompt_fails OutOfMemory (_ ∷ []) _ _ c.requires.sheet refl (lit≤ tt) c.in_ok-write.ensures.held (one_line _ _ _ takes)
-    (record { next = c.in-Ok-Line.ensures.reads; counted = c.in-Ok-Line.ensures.counted }))
+    let takes = rw c.in-Ok-Line.field-0-is at c.in-Ok-Line.ensures.ok in (
+      [],
+      _ ∷ [],
+      prompt_fails OutOfMemory (_ ∷ []) _ _ c.requires.sheet refl (lit≤ tt) c.in_ok-write.ensures.held (one_line _ _ _ takes)
+          (record { next = c.in-Ok-Line.ensures.reads; counted = c.in-Ok-Line.ensures.counted }),
+    )
 
 pub returns-in_err-write-in-Ok-Long-clause-fails :
     goal.returns-in_err-write-in-Ok-Long-clause-fails
@@ -46,16 +49,25 @@ returns-in-Ok-Long-clause-types g c =
 
 pub returns-in-Ok-Full-clause-fails : goal.returns-in-Ok-Full-clause-fails
 returns-in-Ok-Full-clause-fails g c =
-    let full = rw c.in-Ok-Full.field-0-is at c.in-Ok-Full.ensures.ok in
-    ([], [], prompt_fails InputFull [] _ _ c.requires.sheet refl refl c.in_ok-write.ensures.held (handed_same _ _ (ap (option_map (λ input. lines_in (slice_split is_newline input))) full.1))
-    (record { next = c.in-Ok-Full.ensures.reads; counted = c.in-Ok-Full.ensures.counted }))
+    let full = rw c.in-Ok-Full.field-0-is at c.in-Ok-Full.ensures.ok in (
+      [],
+      [],
+      prompt_fails InputFull [] _ _ c.requires.sheet refl refl c.in_ok-write.ensures.held (handed_same _ _ (ap (option_map (λ input. lines_in (slice_split is_newline input))) full.1))
+          (record { next = c.in-Ok-Full.ensures.reads; counted = c.in-Ok-Full.ensures.counted }),
+    )
 
 pub returns-in-Err-Failed-clause-fails : goal.returns-in-Err-Failed-clause-fails
-returns-in-Err-Failed-clause-fails g c =
-    ([], [], prompt_fails Read [] _ _ c.requires.sheet refl refl c.in_ok-write.ensures.held (handed_same _ _ (ap (option_map (λ input. lines_in (slice_split is_newline input))) c.in-Err-Failed.ensures.err))
-    (record { next = c.in-Err-Failed.ensures.reads; counted = c.in-Err-Failed.ensures.counted }))
+returns-in-Err-Failed-clause-fails g c = (
+  [],
+  [],
+  prompt_fails Read [] _ _ c.requires.sheet refl refl c.in_ok-write.ensures.held (handed_same _ _ (ap (option_map (λ input. lines_in (slice_split is_newline input))) c.in-Err-Failed.ensures.err))
+      (record { next = c.in-Err-Failed.ensures.reads; counted = c.in-Err-Failed.ensures.counted }),
+)
 
 pub returns-clause-fails : goal.returns-clause-fails
-returns-clause-fails g c =
-    ([], [], prompt_fails OutOfMemory [] _ _ c.requires.sheet refl (lit≤ tt) c.in_ok-write.ensures.held (handed_same _ _ (ap (option_map (λ input. lines_in (slice_split is_newline input))) c.in-Err-OutOfMemory.ensures.err))
-    (record { next = c.in-Err-OutOfMemory.ensures.reads; counted = c.in-Err-OutOfMemory.ensures.counted }))
+returns-clause-fails g c = (
+  [],
+  [],
+  prompt_fails OutOfMemory [] _ _ c.requires.sheet refl (lit≤ tt) c.in_ok-write.ensures.held (handed_same _ _ (ap (option_map (λ input. lines_in (slice_split is_newline input))) c.in-Err-OutOfMemory.ensures.err))
+      (record { next = c.in-Err-OutOfMemory.ensures.reads; counted = c.in-Err-OutOfMemory.ensures.counted }),
+)
