@@ -114,7 +114,7 @@ def main():
         subprocess.run(["rt", "run", "--", *words], cwd=CRATE, input=b"", check=True, capture_output=True)
     for processes in (1, 2):
         took = min(session(program, LINES, processes) for _ in range(RUNS))
-        print(f"add 1, 2 localities in {processes} processes: {LINES / took:.0f} lines a second, {took / LINES * 1e6:.1f} microseconds a line")
+        print(f"add 1, 2 localities in {processes} processes: {LINES / took:.0f} lines a second, {took / LINES * 1e6:.1f} microseconds a line", flush=True)
     if shutil.which("erl") and shutil.which("erlc"):
         took = min(erlang(LINES) for _ in range(RUNS))
         print(f"Erlang, calls between 2 nodes: {LINES / took:.0f} calls a second, {took / LINES * 1e6:.1f} microseconds a call")

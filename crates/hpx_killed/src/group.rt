@@ -144,7 +144,12 @@ impl Group {
     }
 
     /// Goes on feeding lines until all have ended, and answers whether that was so in time.
-    pub fn ends_within(&mut self, rt: &HostRuntime, time: Duration, line: &[u8]) -> io::Result<bool> {
+    pub fn ends_within(
+        &mut self,
+        rt: &HostRuntime,
+        time: Duration,
+        line: &[u8],
+    ) -> io::Result<bool> {
         let start = Instant::now(rt)?;
         for _ in 0..u64::MAX {
             let has_ended = self.has_ended()?;
