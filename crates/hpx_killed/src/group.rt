@@ -87,11 +87,11 @@ impl Group {
         }
     }
 
-    /// Starts a process, which is killed at once where it cannot be kept.
+    /// Starts a process. Room for it is made before, so that what was started is kept.
     fn start(&mut self, rt: &HostRuntime, seat: Seat, command: &mut Command) -> io::Result<()> {
         self.processes.reserve(1)?;
         let child = command.spawn(rt)?;
-        self.processes.push(Process { seat, child })?;
+        self.processes.push_reserved(Process { seat, child });
         Ok(())
     }
 
