@@ -103,12 +103,20 @@ fn run<N: Net>(rt: &HostRuntime, net: &N) -> io::Result<()> {
     }
 }
 
+/// What the process ends with, and why it could not go on.
+fn ended(rt: &HostRuntime, ran: io::Result<()>) -> ExitCode {
+    match ran {
+        Ok(()) => ExitCode::SUCCESS,
+        Err(error) => {
+            let _ = eprintln!(rt; "hpx_killed: {error}");
+            ExitCode::FAILURE
+        }
+    }
+}
+
 fn main(rt: HostRuntime) -> ExitCode {
     match EnvWords::new(&rt).word(rt.alloc(), 0) {
-        Ok(None) => match run(&rt, &rt) {
-            Ok(()) => ExitCode::SUCCESS,
-            Err(_) => ExitCode::FAILURE,
-        },
+        Ok(None) => ended(&rt, run(&rt, &rt)),
         _ => start(&rt, rt),
     }
 }

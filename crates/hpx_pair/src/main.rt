@@ -11,6 +11,9 @@ use std::io::{self, Write};
 use std::process::{Command, ExitCode, Output, Stdio};
 use std::{env, process};
 
+/// The first word of the launcher.
+const LAUNCHER: &[u8] = b"--program";
+
 /// What is launched: at how many localities, with which words, and what the console reads.
 #[derive(Clone, Copy)]
 struct Launch {
@@ -105,13 +108,21 @@ fn start_launcher(rt: &HostRuntime) -> ExitCode {
     ))
 }
 
+/// What the process ends with, and why it could not go on.
+fn ended(rt: &HostRuntime, ran: io::Result<()>) -> ExitCode {
+    match ran {
+        Ok(()) => ExitCode::SUCCESS,
+        Err(error) => {
+            let _ = eprintln!(rt; "hpx_pair: {error}");
+            ExitCode::FAILURE
+        }
+    }
+}
+
 fn main(rt: HostRuntime) -> ExitCode {
     match EnvWords::new(&rt).word(rt.alloc(), 0) {
-        Ok(None) => match run(&rt) {
-            Ok(()) => ExitCode::SUCCESS,
-            Err(_) => ExitCode::FAILURE,
-        },
-        Ok(Some(word)) if word.as_slice() == b"--program" => start_launcher(&rt),
+        Ok(None) => ended(&rt, run(&rt)),
+        Ok(Some(word)) if word.as_slice() == LAUNCHER => start_launcher(&rt),
         _ => start(&rt, rt),
     }
 }
