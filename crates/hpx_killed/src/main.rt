@@ -6,7 +6,8 @@ mod group;
 
 use group::{Group, Seat, Site};
 use hpx_ports::words::{EnvWords, Words};
-use hpx_program::start::start;
+use hpx_program::start::{start, stop_without_memory};
+use hpx_tcp::reader::{Start, start_reader};
 use std::io::{self, Read};
 use std::net::{Net, TcpListener};
 use std::os::fd::OwnedFd;
@@ -115,8 +116,12 @@ fn ended(rt: &HostRuntime, ran: io::Result<()>) -> ExitCode {
 }
 
 fn main(rt: HostRuntime) -> ExitCode {
-    match EnvWords::new(&rt).word(rt.alloc(), 0) {
-        Ok(None) => ended(&rt, run(&rt, &rt)),
-        _ => start(&rt, rt),
+    if let Ok(None) = EnvWords::new(&rt).word(rt.alloc(), 0) {
+        return ended(&rt, run(&rt, &rt));
     }
+    let readers: Start = match Box::new(rt.alloc(), move |reader| start_reader(rt, reader)) {
+        Ok(readers) => readers,
+        Err(_) => return stop_without_memory(&rt),
+    };
+    start(&rt, rt, readers)
 }

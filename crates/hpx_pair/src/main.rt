@@ -6,7 +6,8 @@ use hpx_launch::program::program;
 use hpx_ports::adapters::WriterSink;
 use hpx_ports::child_spawner::ChildSpawner;
 use hpx_ports::words::{EnvWords, Words};
-use hpx_program::start::start;
+use hpx_program::start::{start, stop_without_memory};
+use hpx_tcp::reader::{Start, start_reader};
 use std::io::{self, Write};
 use std::process::{Command, ExitCode, Output, Stdio};
 use std::{env, process};
@@ -121,8 +122,13 @@ fn ended(rt: &HostRuntime, ran: io::Result<()>) -> ExitCode {
 
 fn main(rt: HostRuntime) -> ExitCode {
     match EnvWords::new(&rt).word(rt.alloc(), 0) {
-        Ok(None) => ended(&rt, run(&rt)),
-        Ok(Some(word)) if word.as_slice() == LAUNCHER => start_launcher(&rt),
-        _ => start(&rt, rt),
+        Ok(None) => return ended(&rt, run(&rt)),
+        Ok(Some(word)) if word.as_slice() == LAUNCHER => return start_launcher(&rt),
+        _ => (),
     }
+    let readers: Start = match Box::new(rt.alloc(), move |reader| start_reader(rt, reader)) {
+        Ok(readers) => readers,
+        Err(_) => return stop_without_memory(&rt),
+    };
+    start(&rt, rt, readers)
 }

@@ -9,6 +9,12 @@ use Rattle.hpx_top.specs.declared.task.Setup.{Setup}
 use Rattle.hpx_top.specs.Runs.{Ports, HasRun}
 use Rattle.hpx_top.specs.Usage.{bad_word, notice_in, place_of, printed_of, request_in}
 use Rattle.hpx_program.specs.Program.{HasRunAsAsked}
+use Rattle.hpx_process.proofs.Words.{no_membership}
+use Rattle.hpx_process.specs.Memberships.{membership_in}
+use Rattle.hpx_process.specs.declared.membership.Membership.{Membership}
+use Rattle.hpx_top.proofs.DoneLemmas.{says_nothing}
+use Rattle.hpx_top.specs.Runs.{Says}
+use Rattle.hpx_top.specs.Statuses.{status_line}
 
 -- the words that were read are those that are told
 pub told_words : (words told : List (List ℕ)) (o : Option (List (List ℕ))) → IfSome o (λ ws. words ≡ ws) → o ≡ Some told → words ≡ told
@@ -38,3 +44,23 @@ said S words status refused taken other = by_word (bad_word words) refl
     by_word : (o : Option ℕ) → bad_word words ≡ o → S
     by_word None good = taken good
     by_word (Some place) bad = absurd (other (refused place bad))
+
+-- what was said of a status is the line for it
+pub says_so : {E : Type 0} (held : E → Option (List ℕ)) (faults : E → ℕ) (line other : List ℕ) (x y z : E) → line ≡ other → y ≡ z
+    → Says line (record { text = held x; faults = faults x }) (record { text = held z; faults = faults z })
+    → Says other (record { text = held x; faults = faults x }) (record { text = held y; faults = faults y })
+says_so held faults line other x y z is same h =
+    subst (λ e. Says other (record { text = held x; faults = faults x }) (record { text = held e; faults = faults e })) (sym same)
+    (subst (λ l. Says l (record { text = held x; faults = faults x }) (record { text = held z; faults = faults z })) is h)
+
+-- nothing is said of status 0
+pub says_none : {E : Type 0} (held : E → Option (List ℕ)) (faults : E → ℕ) (status : ℕ) (x y : E) → status ≡ 0 → y ≡ x
+    → Says (status_line status) (record { text = held x; faults = faults x }) (record { text = held y; faults = faults y })
+says_none held faults status x y is same =
+    subst (λ e. Says (status_line status) (record { text = held x; faults = faults x }) (record { text = held e; faults = faults e })) (sym same)
+    (subst (λ n. Says (status_line n) (record { text = held x; faults = faults x }) (record { text = held x; faults = faults x })) (sym is)
+    (says_nothing (record { text = held x; faults = faults x })))
+
+-- words that are printed for make no member
+pub member_told : (words told : List (List ℕ)) (membership : Membership) (notice : Notice) → words ≡ told → Some membership ≡ membership_in words → notice_in told ≡ Some notice → ⊥
+member_told words told membership notice same is asked = let no : Some membership ≡ None = is ∙ (ap membership_in same ∙ no_membership told notice asked) in cc

@@ -6,7 +6,7 @@ use hpx_ports::memory_fabric::SureFabric;
 use hpx_ports::order::Order;
 use hpx_ports::words::EnvWords;
 use hpx_tcp::open::TcpPorts;
-use hpx_tcp::reader::start_reader;
+use hpx_tcp::reader::Start;
 use std::net::{Net, TcpListener, TcpStream};
 use std::process::ExitCode;
 use std::sync::Wait;
@@ -14,33 +14,29 @@ use std::thread::Threads;
 use std::time::Clock;
 
 /// Runs on the words that the system gives, from its input to its two outputs, over a fabric in memory, or as one locality of several over
-/// loopback TCP, and ends with the status of that run. `machine` starts threads and opens sockets: the runtime, which may do so only where
-/// `main` hands it. The system tells nothing of its words, streams and sockets, so there is nothing to say of them here: `program` says it.
-pub fn start<R>(rt: &HostRuntime, machine: R) -> ExitCode
-where
-    R: Net<Listener = TcpListener, Stream = TcpStream>
-        + Threads
-        + Wait
-        + Clock
-        + Copy
-        + Send
-        + Sync
-        + 'static,
+/// loopback TCP, and ends with the status of that run. `machine` starts workers and opens sockets, and `readers` starts what reads these: the
+/// runtime may do so only where `main` hands it. The system tells nothing of its words, streams and sockets, so there is nothing to say of them
+/// here: `program` says it.
+pub fn start<
+    R: Net<Listener = TcpListener, Stream = TcpStream> + Threads + Wait + Clock + Copy + Sync,
+>(rt: &HostRuntime, machine: R, readers: Start) -> ExitCode
+    requires { IsAlwaysCallable readers }
 {
-    let mut err = WriterSink::new(rt.stderr());
-    let Ok(readers) = Box::new(rt.alloc(), move |reader| start_reader(machine, reader)) else {
-        return say_no_memory(&mut err);
-    };
     program(
         &machine,
         rt.alloc(),
         &EnvWords::new(rt),
         &mut ReaderSource::new(rt.stdin()),
         &mut WriterSink::new(rt.stdout()),
-        &mut err,
+        &mut WriterSink::new(rt.stderr()),
         SureFabric::new(rt.alloc(), Order::FirstIn),
         &mut TcpPorts::new(machine, rt.alloc(), readers),
         &OpenGate,
     )
     .code
+}
+
+/// Says that there is no memory to begin with, and ends with status 6.
+pub fn stop_without_memory(rt: &HostRuntime) -> ExitCode {
+    say_no_memory(&mut WriterSink::new(rt.stderr()))
 }
