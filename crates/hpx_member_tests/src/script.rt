@@ -1,5 +1,5 @@
 //! Lines that a console is handed, and what is shown of its journal, in memory.
-ghost use Rattle.std.specs.Prelude.{Unit, false};
+ghost use Rattle.std.specs.Prelude.{false};
 
 use hpx_journal::entry::Event;
 use hpx_journal::journal::Journal;
