@@ -1,12 +1,11 @@
-//! 20,160 frames made from numbers, 720 for each locality of each scene.
-use crate::facts::Facts;
+//! 20,200 frames made from numbers, 404 for each locality of each scene.
+use crate::facts::{Facts, facts_of};
 use crate::frames::{Numbers, made};
-use crate::pair::{boot, ends, play, seen, take};
+use crate::pair::{Whole, boot, ends, play, seen, take};
 use crate::rules::wanted;
-use crate::scenes::SCENES;
+use crate::scenes::{SCENES, Scene};
 use hpx_node::parts::TakeFault;
 use hpx_stepped::pair::Pair;
-use hpx_stepped::site::Seen;
 use hpx_value::memory::OutOfMemory;
 use std::alloc::Global;
 use std::test::Fail;
@@ -89,7 +88,7 @@ fn strangers(
     numbers: &mut Numbers,
     told: &mut Told,
 ) -> Result<(), OutOfMemory> {
-    for _ in 0..720 {
+    for _ in 0..404 {
         if stranger(alloc, pair, facts, numbers, told)? {
             play(alloc, pair, script)?;
         }
@@ -98,7 +97,7 @@ fn strangers(
 }
 
 /// What is seen of both in the end, where nothing else comes.
-fn ending(alloc: Global, script: &[u8], pair: &mut Pair) -> Result<(Seen, Seen), OutOfMemory> {
+fn ending(alloc: Global, script: &[u8], pair: &mut Pair) -> Result<(Whole, Whole), OutOfMemory> {
     play(alloc, pair, script)?;
     ends(alloc, pair)
 }
@@ -121,7 +120,19 @@ fn scene(
     Ok(())
 }
 
-/// All scenes, at both localities.
+/// One scene, at both localities.
+fn at_both(
+    alloc: Global,
+    at: &Scene,
+    pair: &mut Pair,
+    numbers: &mut Numbers,
+    told: &mut Told,
+) -> Result<(), OutOfMemory> {
+    scene(alloc, at.script, &facts_of(at, false), pair, numbers, told)?;
+    scene(alloc, at.script, &facts_of(at, true), pair, numbers, told)
+}
+
+/// All scenes.
 fn scenes(alloc: Global, pair: &mut Pair) -> Result<Told, OutOfMemory> {
     let mut told = Told {
         accepted: 0,
@@ -132,8 +143,7 @@ fn scenes(alloc: Global, pair: &mut Pair) -> Result<Told, OutOfMemory> {
     };
     let mut numbers = Numbers::new(2026);
     for at in SCENES {
-        scene(alloc, at.script, &at.first, pair, &mut numbers, &mut told)?;
-        scene(alloc, at.script, &at.second, pair, &mut numbers, &mut told)?;
+        at_both(alloc, &at, pair, &mut numbers, &mut told)?;
     }
     Ok(told)
 }

@@ -1,0 +1,42 @@
+//! A short session over a world, step by step. Where memory is wanting, the journal that is left is judged, what is out has to have been
+//! handed back, and the session goes on from there: so each allocation can be refused in turn. The status is 6 where memory was
+//! wanting, and 1 where what was left then was not right.
+#![tactic(auto)]
+
+mod story;
+
+use crate::story::{Session, Told};
+use hpx_value::memory::OutOfMemory;
+use std::alloc::Global;
+use std::io;
+use std::process::ExitCode;
+
+/// A number is made, called, asked for, moved, called, asked for and dropped.
+const LINES: &[u8] = b"naqmaqd";
+
+/// What the session comes to.
+fn played(alloc: Global) -> Result<Told, OutOfMemory> {
+    let mut session = Session::boot(alloc)?;
+    for line in LINES {
+        session.line(alloc, *line)?;
+    }
+    Ok(session.told(alloc))
+}
+
+/// The status for what the session came to, which is printed.
+fn shown(rt: &HostRuntime, told: Told) -> io::Result<u8> {
+    let Told { wanted, wrong } = told;
+    println!(rt; "memory was wanting {wanted} times")?;
+    if wrong {
+        println!(rt; "what was left is not right")?;
+        return Ok(1);
+    }
+    Ok(if wanted > 0 { 6 } else { 0 })
+}
+
+fn main(rt: HostRuntime) -> ExitCode {
+    match played(rt.alloc()) {
+        Ok(told) => ExitCode::from(shown(&rt, told).unwrap_or(1)),
+        Err(_) => ExitCode::from(6),
+    }
+}
