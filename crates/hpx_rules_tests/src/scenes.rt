@@ -66,8 +66,10 @@ const NEW: Known = (WHOLE, Here, 0);
 /// The credit of the number that the session keeps, and no other object there.
 const KEPT: [Known; 3] = [(None, Away, 256), NOTHING, NOTHING];
 
-// Written by hand from what the lines and steps do. A new object has the credit 256, and an id that is handed on is halved.
-pub const SCENES: [Scene; 25] = [
+// All are written by hand from what the lines and steps do. A new object has the credit 256, and an id that is handed on is halved.
+
+/// The number is made, called, and asked for.
+pub const CALLED: [Scene; 5] = [
     // Boot.
     Scene {
         script: b"",
@@ -96,6 +98,17 @@ pub const SCENES: [Scene; 25] = [
         second: [(WHOLE, Here, 128), NOTHING, NOTHING],
         asked: None,
     },
+    // The ninth call of nine asks for more credit.
+    Scene {
+        script: b"n0x1y0a0xa0xa0xa0xa0xa0xa0xa0xa0",
+        first: [NOTHING, NOTHING, NOTHING],
+        second: [(WHOLE, Here, 255), NOTHING, NOTHING],
+        asked: Some(1),
+    },
+];
+
+/// It is to leave its home, and leaves.
+pub const LEAVING: [Scene; 5] = [
     // The home has begun a move: what it grants is on its own desk.
     Scene {
         script: b"n0x1y0m0x",
@@ -117,6 +130,24 @@ pub const SCENES: [Scene; 25] = [
         second: [(MOVING, Away, 128), NOTHING, NOTHING],
         asked: None,
     },
+    // A call waits until it has moved.
+    Scene {
+        script: b"n0x1y0m0xva0x",
+        first: [(None, Away, 64), NOTHING, NOTHING],
+        second: [(QUEUED, Leaving, 192), NOTHING, NOTHING],
+        asked: None,
+    },
+    // It is to leave, and cannot yet.
+    Scene {
+        script: b"n0x1y0a0xm0xv",
+        first: [(None, Away, 64), NOTHING, NOTHING],
+        second: [(MOVING, Leaving, 192), NOTHING, NOTHING],
+        asked: None,
+    },
+];
+
+/// It has come elsewhere, and then another object.
+pub const LANDED: [Scene; 5] = [
     // It has landed, and its MOVE is not done.
     Scene {
         script: b"n0x1y0m0xvvy",
@@ -145,27 +176,17 @@ pub const SCENES: [Scene; 25] = [
         second: [(MOVED, Away, 0), NOTHING, NOTHING],
         asked: None,
     },
-    // A call waits until it has moved.
+    // The second object has moved there.
     Scene {
-        script: b"n0x1y0m0xva0x",
-        first: [(None, Away, 64), NOTHING, NOTHING],
-        second: [(QUEUED, Leaving, 192), NOTHING, NOTHING],
+        script: b"n0x1y0A1wB1wCvvy0x",
+        first: [(None, Away, 256), (None, Here, 0), NOTHING],
+        second: [NEW, (GONE, Away, 0), NEW],
         asked: None,
     },
-    // It is to leave, and cannot yet.
-    Scene {
-        script: b"n0x1y0a0xm0xv",
-        first: [(None, Away, 64), NOTHING, NOTHING],
-        second: [(MOVING, Leaving, 192), NOTHING, NOTHING],
-        asked: None,
-    },
-    // The ninth call of nine asks for more credit.
-    Scene {
-        script: b"n0x1y0a0xa0xa0xa0xa0xa0xa0xa0xa0",
-        first: [NOTHING, NOTHING, NOTHING],
-        second: [(WHOLE, Here, 255), NOTHING, NOTHING],
-        asked: Some(1),
-    },
+];
+
+/// Three objects, called by actions that bring ids.
+pub const THREE: [Scene; 5] = [
     // Two more objects are made; the answers that bring their ids are on the way.
     Scene {
         script: b"n0x1y0A1B1",
@@ -180,14 +201,7 @@ pub const SCENES: [Scene; 25] = [
         second: [NEW, (MOVING, Here, 8), NEW],
         asked: None,
     },
-    // It has moved.
-    Scene {
-        script: b"n0x1y0A1wB1wCvvy0x",
-        first: [(None, Away, 256), (None, Here, 0), NOTHING],
-        second: [NEW, (GONE, Away, 0), NEW],
-        asked: None,
-    },
-    // Where it is now, and on the third object, actions with continuations are under way.
+    // Where the second object is now, and on the third, actions with continuations are under way.
     Scene {
         script: b"n0x1y0A1wB1wCvvy0xD2E3",
         first: [(None, Away, 256), (None, Here, 1), NOTHING],
@@ -201,6 +215,17 @@ pub const SCENES: [Scene; 25] = [
         second: [(WHOLE, Here, 4), NEW, (WHOLE, Here, 2)],
         asked: None,
     },
+    // On the desk of the home lie a Give that nobody there asked for, and two Returns.
+    Scene {
+        script: b"n0x1y0A1wB1wGI1",
+        first: KEPT,
+        second: [NEW, NEW, (GIVEN, Here, 0)],
+        asked: None,
+    },
+];
+
+/// Objects that keep ids, wait, and are to leave.
+pub const KEEPING: [Scene; 5] = [
     // An object comes whose state keeps an id and a continuation.
     Scene {
         script: b"n0x1y0A1wB1wF",
@@ -215,14 +240,7 @@ pub const SCENES: [Scene; 25] = [
         second: [NEW, NEW, NEW],
         asked: None,
     },
-    // On the desk of the home lie a Give that nobody there asked for, and two Returns.
-    Scene {
-        script: b"n0x1y0A1wB1wGI1",
-        first: KEPT,
-        second: [NEW, NEW, (GIVEN, Here, 0)],
-        asked: None,
-    },
-    // On its desk lies an answer to an object that was never made.
+    // On the desk of the home lies an answer to an object that was never made.
     Scene {
         script: b"n0x1y0A1wB1wH1",
         first: KEPT,
