@@ -1,41 +1,50 @@
 #!/usr/bin/env python3
 """Runs a short session with each allocation refused in turn, and says what was left each time.
 
-The session is the program crates/hpx_wanting. It is built and run by `rt try --fail-alloc N` for N = 1, 2, .. until a
-run ends with status 0: then the session makes fewer allocations than that. Each run before has to end with status 6.
-By that status the program says, where its world was there by then, that the judge accepted the journal that was left, a
-job that was out was handed back, and the session went on from there to its whole text.
+The session is the program crates/hpx_wanting. `rt try --fail-alloc LAST --cases FOLDER` builds it once and runs it once for
+each N: its input asks for LAST - N allocations before the session, so that the N-th of the session is refused. Where the
+session makes as many, the run has to end with status 6: by that it says, where its world was there by then, that the judge
+accepted the journal that was left, a job that was out was handed back, and the session went on from there to its whole text.
+Behind the last allocation of the session each run has to end with status 0.
 
-Run it anywhere in the repository, with `rt` on the path. Each run is built anew and takes a while: with words, as in
-`allocations.py 40 5`, it begins at that allocation and refuses every fifth.
+Run it anywhere in the repository, with `rt` on the path. It takes about an hour; with words, as in `allocations.py 40 100`, it
+begins at that allocation and refuses every hundredth.
 """
 
 import pathlib
 import re
 import subprocess
 import sys
+import tempfile
 
 CRATE = pathlib.Path(__file__).resolve().parent.parent / "crates" / "hpx_wanting"
-STATUS = re.compile(r"^run=ended status=(\d+)", re.M)
+ENDED = re.compile(r"^case=(\d+) run=ended status=(\d+)", re.M)
+
+# More allocations than the session makes.
+LAST = 10000
 
 
-def run(*words):
-    """The status of the program and what it printed."""
-    ran = subprocess.run(["rt", "try", *words], cwd=CRATE, capture_output=True, text=True)
-    told = STATUS.search(ran.stderr)
-    return int(told.group(1)) if told else ran.returncode, ran.stdout.strip()
+def statuses(numbers):
+    """The status of the run with each of these allocations refused."""
+    with tempfile.TemporaryDirectory() as folder:
+        for n in numbers:
+            (pathlib.Path(folder) / str(n)).write_text(f"{LAST - n}\n")
+        words = ["rt", "try", "--steps", "1", "--fail-alloc", str(LAST), "--cases", folder]
+        ran = subprocess.run(words, cwd=CRATE, stdout=subprocess.DEVNULL, stderr=subprocess.PIPE, text=True)
+    told = {int(n): int(status) for n, status in ENDED.findall(ran.stderr)}
+    assert sorted(told) == sorted(numbers), ran.stderr[-2000:]
+    return [told[n] for n in numbers]
 
 
 def main():
-    n = int(sys.argv[1]) if len(sys.argv) > 1 else 1
+    first = int(sys.argv[1]) if len(sys.argv) > 1 else 1
     every = int(sys.argv[2]) if len(sys.argv) > 2 else 1
-    while True:
-        status, text = run("--fail-alloc", str(n))
-        print(n, status, text or "no world")
-        if status == 0:
-            break
-        assert status == 6, "what was left is not right"
-        n += every
+    numbers = range(first, LAST + 1, every)
+    ended = statuses(numbers)
+    wanting = ended.count(6)
+    print(f"{wanting} allocations refused, the last of them number {numbers[wanting - 1]}")
+    assert 0 < wanting < len(ended), "there are more allocations than are counted"
+    assert ended == [6] * wanting + [0] * (len(ended) - wanting), "what was left is not right"
 
 
 if __name__ == "__main__":
