@@ -2,10 +2,10 @@
 """Runs a short session with each allocation refused in turn, and says what was left each time.
 
 The session is the program crates/hpx_wanting. `rt try --fail-alloc LAST --cases FOLDER` builds it once and runs it once for
-each N: its input asks for LAST - N allocations before the session, so that the N-th of the session is refused. Where the
-session makes as many, the run has to end with status 6: by that it says, where its world was there by then, that the judge
-accepted the journal that was left, a job that was out was handed back, and the session went on from there to its whole text.
-Behind the last allocation of the session each run has to end with status 0.
+each N: its input asks for LAST - N allocations before the session, so that the N-th of the session is refused. Each run has
+to end with status 6 or 0. By 6 it says that memory was wanting and, where its world was there by then, that the judge accepted
+the journal that was left, a job that was out was handed back, and the session went on from there to its whole text. By 0 it
+says that nothing was wanting: the session makes fewer allocations, or did without this one.
 
 Run it anywhere in the repository, with `rt` on the path. It takes about an hour; with words, as in `allocations.py 40 100`, it
 begins at that allocation and refuses every hundredth.
@@ -41,10 +41,11 @@ def main():
     every = int(sys.argv[2]) if len(sys.argv) > 2 else 1
     numbers = range(first, LAST + 1, every)
     ended = statuses(numbers)
-    wanting = ended.count(6)
-    print(f"{wanting} allocations refused, the last of them number {numbers[wanting - 1]}")
-    assert 0 < wanting < len(ended), "there are more allocations than are counted"
-    assert ended == [6] * wanting + [0] * (len(ended) - wanting), "what was left is not right"
+    assert set(ended) <= {0, 6}, "what was left is not right"
+    assert ended[-1] == 0, "there are more allocations than are counted"
+    wanting = [n for n, status in zip(numbers, ended) if status == 6]
+    without = [n for n, status in zip(numbers, ended) if status == 0 and n < wanting[-1]]
+    print(f"memory was wanting {len(wanting)} times, last at {wanting[-1]}; the session did without {without}")
 
 
 if __name__ == "__main__":
