@@ -1,1 +1,5 @@
+pub mod Awaited
+pub mod Claims
+pub mod Hand
+pub mod Lines
 pub mod Prints

@@ -1,1 +1,3 @@
 pub mod Data
+pub mod Claims
+pub mod Lines
