@@ -2,4 +2,5 @@ pub mod Awaited
 pub mod Claims
 pub mod Hand
 pub mod Lines
+pub mod Patient
 pub mod Prints

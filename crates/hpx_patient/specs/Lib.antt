@@ -1,3 +1,4 @@
 pub mod Data
 pub mod Claims
 pub mod Lines
+pub mod Patient
