@@ -1,5 +1,6 @@
 pub mod Awaited
 pub mod Claims
+pub mod Cuts
 pub mod Hand
 pub mod Lines
 pub mod Patient

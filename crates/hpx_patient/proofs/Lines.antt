@@ -27,6 +27,7 @@ use Rattle.hpx_patient.specs.Data.{Name, Event, Line, Done, Out, Entry, Local}
 use Rattle.hpx_patient.specs.Lines.{is_line, line_count, SendsNoLine, LinesStay}
 use Rattle.hpx_patient.proofs.Claims.{AreLawful, mass_goes, done_due}
 use Rattle.hpx_patient.proofs.Awaited.{lawful_at, mass_step, start_mass}
+use Rattle.hpx_patient.proofs.Prints.{part_first, part_skips}
 
 -- ---- a line as its target sees it is one
 
@@ -113,12 +114,6 @@ brings_lines r s lawful away _ row = refl
 
 abbrev AreHere : Rules → Space → Type 0
 AreHere r w = mass r line_count w ≤ mass_at line_count (w.places 0)
-
-part_first : (e : Entry) (es : List Entry) → e.at ≡ 0 → part 0 (e ∷ es) ≡ e ∷ part 0 es
-part_first e es h = rw (eq-eqb e.at 0 h) refl
-
-part_skips : (e : Entry) (es : List Entry) → e.at ≢ 0 → part 0 (e ∷ es) ≡ part 0 es
-part_skips e es h = rw (ne_eqb e.at 0 h) refl
 
 stay_rest : (r : Rules) (e : Entry) (es : List Entry) → LinesStay r (e ∷ es) → LinesStay r es
 stay_rest r e es h = elim (cases_eq e.at 0) [

@@ -9,15 +9,16 @@ use Rattle.hpx_journal.specs.Entries.{Rules, target_of}
 use Rattle.hpx_patient.specs.Data.{Name, Event, Done, Entry, Standing, Local}
 use Rattle.hpx_journal.specs.Local.{after, is_standing, failure, outcome}
 use Rattle.hpx_journal.specs.Rows.{Row, Runs}
-use Rattle.hpx_journal.specs.Whole.{Space, step, at_place, MayStand, IsLegalFrom, IsLegal, part, replayed}
+use Rattle.hpx_journal.specs.Whole.{Space, step, run, at_place, MayStand, IsLegalFrom, IsLegal, part, replayed}
 use Rattle.hpx_journal.specs.Laws.{HasGrammar, KeepsActLaws}
 use Rattle.hpx_journal.specs.Pool.{prints_due, prints_by, prints_of}
 use Rattle.hpx_journal.proofs.Bags.{find-passes}
 use Rattle.hpx_journal.proofs.Formed.{keeps, target_console}
+use Rattle.hpx_journal.proofs.Fronts.{legal_front, legal_rest}
 use Rattle.hpx_journal.proofs.PoolSound.{IsQuietly, prints_stay, done_prints}
 use Rattle.hpx_journal.proofs.Same.{same_object-true}
 use Rattle.hpx_journal.proofs.SlotsWhole.{IsSlotted, place_of, slotted_run, start_slotted}
-use Rattle.hpx_journal.proofs.Start.{first, start_whole}
+use Rattle.hpx_journal.proofs.Start.{first, start_whole, legal_whole}
 use Rattle.hpx_journal.proofs.Wholes.{IsWhole, whole_step, at_same, at_other}
 
 append_empty : {X : Type 0} (xs ys : List X) → xs ++ ys ≡ [] → (xs ≡ []) × (ys ≡ [])
@@ -75,10 +76,10 @@ module _ (r : Rules) (grammar : HasGrammar r) (laws : KeepsActLaws r) (w : Space
 abbrev AreMute : Space → Type 0
 AreMute w = (k : ℕ) → k ≢ 0 → prints_due (w.places k).due ≡ []
 
-part_first : (e : Entry) (es : List Entry) → e.at ≡ 0 → part 0 (e ∷ es) ≡ e ∷ part 0 es
+pub part_first : (e : Entry) (es : List Entry) → e.at ≡ 0 → part 0 (e ∷ es) ≡ e ∷ part 0 es
 part_first e es h = rw (eq-eqb e.at 0 h) refl
 
-part_skips : (e : Entry) (es : List Entry) → e.at ≢ 0 → part 0 (e ∷ es) ≡ part 0 es
+pub part_skips : (e : Entry) (es : List Entry) → e.at ≢ 0 → part 0 (e ∷ es) ≡ part 0 es
 part_skips e es h = rw (ne_eqb e.at 0 h) refl
 
 module _ (r : Rules) (grammar : HasGrammar r) (laws : KeepsActLaws r) where
@@ -105,6 +106,19 @@ module _ (r : Rules) (grammar : HasGrammar r) (laws : KeepsActLaws r) where
             ap (λ ps. ps ++ prints_of es) (mute_after r grammar laws w whole slotted e legal.0 other e.event legal.0.allowed.row (mute e.at other)).0
             ∙ (rest ∙ ap prints_of (sym (part_skips e es other)))
       ]
+
+  mute_run : (w : Space) (es : List Entry) → IsWhole r w → IsSlotted r w → AreMute w → IsLegalFrom r w es → AreMute (run r w es)
+  mute_run w [] whole slotted mute legal = mute
+  mute_run w (e ∷ es) whole slotted mute legal =
+      mute_run (step r w e) es (whole_step r w e whole legal.0) (slotted_run r grammar laws w (e ∷ []) whole slotted (legal.0, tt))
+      (mute_step w e whole slotted legal.0 mute) legal.1
+
+  -- of what is written behind other entries too
+  pub prints_behind : (before es : List Entry) → IsLegal r (before ++ es) → prints_of es ≡ prints_of (part 0 es)
+  prints_behind before es legal =
+      let front : IsLegal r before = legal_front r (first r) before es legal in
+      prints_from (replayed r before) es (legal_whole r before front) (slotted_run r grammar laws (first r) before (start_whole r) (start_slotted r) front)
+      (mute_run (first r) before (start_whole r) (start_slotted r) (λ k away. refl) front) (legal_rest r (first r) before es legal)
 
   pub legal_prints : (es : List Entry) → IsLegal r es → prints_of es ≡ prints_of (part 0 es)
   legal_prints es legal = prints_from (first r) es (start_whole r) (start_slotted r) (λ k away. refl) legal

@@ -4,7 +4,7 @@ use Rattle.std.specs.Prelude.{ℕ, false, List, [], ◌∷◌, ◌++◌, ◌≡�
 use Rattle.std.specs.List.{AllByRecursion}
 use Rattle.hpx_journal.specs.Data.{Message}
 use Rattle.hpx_journal.specs.Entries.{Rules}
-use Rattle.hpx_journal.specs.Whole.{IsLegal, replayed}
+use Rattle.hpx_journal.specs.Whole.{IsLegal, replayed, run_local}
 use Rattle.hpx_journal.specs.Pool.{Pool, fed}
 use Rattle.hpx_journal.specs.Sessions.{BeginsWith, Steps, at_rest}
 use Rattle.hpx_patient.specs.Data.{Entry, Local}
@@ -29,6 +29,14 @@ abbrev pub IsPatientSession : Rules → List Entry → List (List ℕ) → List 
 IsPatientSession r before [] [] = Unit {0}
 IsPatientSession r before (line ∷ lines) (es ∷ blocks) = IsPatientBlock r before line es × IsPatientSession r (before ++ es) lines blocks
 IsPatientSession r before _ _ = ⊥
+
+-- ---- what a console knows of its own part
+
+-- the part of locality 0 in blocks: each begins with its line, and behind each the console is ready
+abbrev pub IsPatientPart : Rules → Local → List (List ℕ) → List (List Entry) → Type 0
+IsPatientPart r s [] [] = Unit {0}
+IsPatientPart r s (line ∷ lines) (es ∷ blocks) = BeginsWith line es × IsReady (run_local r s es) × IsPatientPart r (run_local r s es) lines blocks
+IsPatientPart r s _ _ = ⊥
 
 -- ---- the same over the plain pool
 
