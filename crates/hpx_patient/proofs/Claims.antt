@@ -1,5 +1,5 @@
 -- How the claims on the session move with an entry.
-use Rattle.std.proofs.Common.{ℕ, Bool, true, false, cond, List, [], ◌∷◌, ◌++◌, ◌≡◌, ◌≢◌, ◌+◌, ◌≤◌, Option, Some, None, refl, sym, ap, ◌∙◌, arith, inl, inr, map}
+use Rattle.std.proofs.Common.{ℕ, Bool, true, false, cond, List, [], ◌∷◌, ◌++◌, ◌≡◌, ◌+◌, ◌≤◌, Option, Some, refl, sym, ap, ◌∙◌, arith, inl, inr, map}
 use Rattle.std.specs.Prelude.{◌==◌, ◌&&◌, codes}
 use Rattle.std.specs.List.{find, sum_by, count_by, AllByRecursion}
 use Rattle.std.specs.Option.{option_to_list}
@@ -8,15 +8,15 @@ use Rattle.std.proofs.lemmas.Bool.{cases_Bool}
 use Rattle.hpx_value.specs.Ids.{same_object}
 use Rattle.hpx_value.specs.Values.{message_of, named, refs_in}
 use Rattle.hpx_value.specs.Shapes.{IsAct}
-use Rattle.hpx_value.specs.Laws.{KeepsLaws, IsManaged, birth_state}
+use Rattle.hpx_value.specs.Laws.{KeepsLaws, IsManaged}
 use Rattle.hpx_value.specs.Hands.{Slot, session, id_at, own_slot, answer}
 use Rattle.hpx_value.specs.Riders.{plain, plain_message, due_with}
 use Rattle.hpx_value.proofs.Riders.{plain_own, plain_code, plain_target}
 use Rattle.hpx_journal.specs.Bags.{without}
-use Rattle.hpx_journal.specs.Data.{Id, State, Act, Fault, Make, Message, Due, MessageDue, PrintDue}
+use Rattle.hpx_journal.specs.Data.{Id, State, Act, Fault, Make, Message, MessageDue, PrintDue}
 use Rattle.hpx_journal.specs.Entries.{Rules, Frame, target_of, line_message}
-use Rattle.hpx_journal.specs.Frames.{acts_in, travels_in}
-use Rattle.hpx_journal.specs.Local.{after, is_act, is_standing, is_travel, due_left, failure, outcome, settled, stood, leaving}
+use Rattle.hpx_journal.specs.Frames.{travels_in}
+use Rattle.hpx_journal.specs.Local.{after, is_act, is_standing, is_travel, due_left, failure, outcome, stood, leaving}
 use Rattle.hpx_journal.specs.Rows.{Row, Runs, AreMade, TurnAllows}
 use Rattle.hpx_journal.specs.Whole.{sends, arrives_at}
 use Rattle.hpx_journal.specs.Pool.{act_mass, due_mass, mass_at, sent_by}
@@ -28,7 +28,7 @@ use Rattle.hpx_journal.proofs.Keys.{one_if}
 use Rattle.hpx_journal.proofs.Mass.{messages, brings, ends, departs, lands, done_message, due_messages, messages-due, mass_moves}
 use Rattle.hpx_journal.proofs.Moves.{travels_out}
 use Rattle.hpx_journal.proofs.Same.{same_object-true, same_object-from, same_object-through}
-use Rattle.hpx_patient.specs.Data.{Name, Event, Line, Fire, Born, Done, Sent, Print, Freed, Left, Landed, Out, In, Standing, Travel, Local}
+use Rattle.hpx_patient.specs.Data.{Name, Event, Line, Born, Done, Freed, Left, Landed, Out, In, Standing, Travel, Local}
 use Rattle.hpx_patient.specs.Claims.{is_answer, of_session, session_claims, drawn_by, drawn_at, answered_at}
 use Rattle.hpx_patient.proofs.Hand.{kept_claims, AreOthers, drawn_of, outcome_claims}
 

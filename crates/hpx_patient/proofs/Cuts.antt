@@ -3,7 +3,7 @@ use Rattle.std.proofs.Common.{ℕ, List, [], ◌∷◌, ◌++◌, ◌≡◌, ◌
 use Rattle.std.specs.List.{AllByRecursion}
 use Rattle.std.proofs.lemmas.Bool.{cases_eq}
 use Rattle.hpx_journal.specs.Entries.{Rules}
-use Rattle.hpx_journal.specs.Local.{boot}
+use Rattle.hpx_journal.specs.Local.{after, boot}
 use Rattle.hpx_journal.specs.Roots.{roots}
 use Rattle.hpx_journal.specs.Rows.{Allowed, Row}
 use Rattle.hpx_journal.specs.Whole.{Space, step, run_local, part, replayed, IsLegal, IsLegalFrom}
@@ -17,7 +17,7 @@ use Rattle.hpx_journal.proofs.Start.{first, start_whole, legal_whole}
 use Rattle.hpx_journal.proofs.Wholes.{IsWhole, whole_step}
 use Rattle.hpx_patient.specs.Data.{Event, Line, Entry, Local}
 use Rattle.hpx_patient.specs.Lines.{LinesStay}
-use Rattle.hpx_patient.specs.Patient.{IsReady, IsPatientSession, IsPatientPart, IsPatientPlainSession, IsPatientPlainBrokenOff}
+use Rattle.hpx_patient.specs.Patient.{IsReady, IsPatientSession, IfLine, FeedsReady, AreBlocks, IsPatientPart, IsPatientPlainSession, IsPatientPlainBrokenOff}
 use Rattle.hpx_patient.proofs.Patient.{stay_front, patient_plain, patient_front}
 use Rattle.hpx_patient.proofs.Prints.{part_first, part_skips, prints_behind}
 
@@ -110,6 +110,50 @@ begins_whole r w (e ∷ es) xs line whole legal snug h begins =
     let own = subst (BeginsWith line) (sym h ∙ part_first e es snug) begins in
     (own.0, unfed_from r (step r w e) es (whole_step r w e whole legal.0) legal.1 own.1)
 
+-- ---- the console is ready behind each block
+
+abbrev InParts : Rules → Local → List (List ℕ) → List (List Entry) → Type 0
+InParts r s [] [] = Unit {0}
+InParts r s (line ∷ lines) (es ∷ blocks) = BeginsWith line es × IsReady (run_local r s es) × InParts r (run_local r s es) lines blocks
+InParts r s _ _ = ⊥
+
+run_behind : (r : Rules) (s : Local) (xs ys : List Entry) → run_local r s (xs ++ ys) ≡ run_local r (run_local r s xs) ys
+run_behind r s [] ys = refl
+run_behind r s (x ∷ xs) ys = run_behind r (after r s x.event) xs ys
+
+feeds_front : (r : Rules) (s : Local) (xs ys : List Entry) → FeedsReady r s (xs ++ ys) → FeedsReady r s xs
+feeds_front r s [] ys h = tt
+feeds_front r s (x ∷ xs) ys h = (h.0, feeds_front r (after r s x.event) xs ys h.1)
+
+feeds_behind : (r : Rules) (s : Local) (xs ys : List Entry) → FeedsReady r s (xs ++ ys) → FeedsReady r (run_local r s xs) ys
+feeds_behind r s [] ys h = h
+feeds_behind r s (x ∷ xs) ys h = feeds_behind r (after r s x.event) xs ys h.1
+
+-- where a block begins the console is ready
+ready_first : (r : Rules) (s : Local) (line : List ℕ) (b later : List Entry) → BeginsWith line b → FeedsReady r s (b ++ later) → IsReady s
+ready_first r s line [] later begins feeds = absurd begins
+ready_first r s line (e ∷ es) later begins feeds = subst (λ v. IfLine v (IsReady s)) begins.0.1 feeds.0
+
+ready_then : (r : Rules) (s : Local) (lines : List (List ℕ)) (blocks : List (List Entry)) → AreBlocks lines blocks → FeedsReady r s (entries_of blocks)
+    → IsReady (run_local r s (entries_of blocks)) → IsReady s
+ready_then r s [] [] begin feeds ready = ready
+ready_then r s (line ∷ lines) (b ∷ blocks) begin feeds ready = ready_first r s line b (entries_of blocks) begin.0 feeds
+ready_then r s [] (x ∷ xs) begin feeds ready = absurd begin
+ready_then r s (x ∷ xs) [] begin feeds ready = absurd begin
+
+in_parts : (r : Rules) (s : Local) (lines : List (List ℕ)) (blocks : List (List Entry)) → AreBlocks lines blocks → FeedsReady r s (entries_of blocks)
+    → IsReady (run_local r s (entries_of blocks)) → InParts r s lines blocks
+in_parts r s [] [] begin feeds ready = tt
+in_parts r s (line ∷ lines) (b ∷ blocks) begin feeds ready =
+    let rest = feeds_behind r s b (entries_of blocks) feeds in
+    let end : IsReady (run_local r (run_local r s b) (entries_of blocks)) = subst IsReady (run_behind r s b (entries_of blocks)) ready in (
+      begin.0,
+      ready_then r (run_local r s b) lines blocks begin.1 rest end,
+      in_parts r (run_local r s b) lines blocks begin.1 rest end,
+    )
+in_parts r s [] (x ∷ xs) begin feeds ready = absurd begin
+in_parts r s (x ∷ xs) [] begin feeds ready = absurd begin
+
 -- ---- the blocks of the whole
 
 record AreCut (r : Rules) (before es : List Entry) (lines : List (List ℕ)) (own : List (List Entry)) (last : List Entry) : Type 0 where
@@ -123,7 +167,7 @@ record AreCut (r : Rules) (before es : List Entry) (lines : List (List ℕ)) (ow
 
 module _ (r : Rules) (grammar : HasGrammar r) (laws : KeepsActLaws r) where
   cuts : (before es : List Entry) (lines : List (List ℕ)) (own : List (List Entry)) (last : List Entry) → IsLegal r (before ++ es) → IsSnug es
-      → part 0 es ≡ entries_of own ++ last → IsPatientPart r ((replayed r before).places 0) lines own → AreCut r before es lines own last
+      → part 0 es ≡ entries_of own ++ last → InParts r ((replayed r before).places 0) lines own → AreCut r before es lines own last
   cuts before es [] [] last legal snug h p = record { blocks = []; rest = es; is = refl; session = tt; texts = refl; part_rest = h; snug = snug }
   cuts before es (line ∷ lines) (b ∷ own) last legal snug h p =
       let w : Space = replayed r before in
@@ -134,7 +178,7 @@ module _ (r : Rules) (grammar : HasGrammar r) (laws : KeepsActLaws r) where
       let here : (replayed r (before ++ s.front)).places 0 ≡ run_local r (w.places 0) b =
       ap (λ (x : Space). x.places 0) (run_append r (first r) before s.front)
       ∙ (run_part r w s.front 0 ∙ ap (run_local r (w.places 0)) s.part_front) in
-      let rest = cuts (before ++ s.front) s.back lines own last all s.snug s.part_back (subst (λ t. IsPatientPart r t lines own) (sym here) p.2) in
+      let rest = cuts (before ++ s.front) s.back lines own last all s.snug s.part_back (subst (λ t. InParts r t lines own) (sym here) p.2) in
       record {
         blocks = s.front ∷ rest.blocks;
         rest = rest.rest;
@@ -166,9 +210,12 @@ module _ (r : Rules) (grammar : HasGrammar r) (laws : KeepsActLaws r) where
     cut : AreCut r before behind lines own last
 
   from_boot : (es : List Entry) (lines : List (List ℕ)) (own : List (List Entry)) (last : List Entry) → IsLegal r es
-      → part 0 es ≡ entries_of own ++ last → IsPatientPart r (boot (roots r.localities 0) 0) lines own → FromBoot es lines own last
-  from_boot es lines own last legal h p =
-      let s = split es [] (entries_of own ++ last) h in
+      → IsPatientPart r (part 0 es) lines own last → FromBoot es lines own last
+  from_boot es lines own last legal h =
+      let root : Local = boot (roots r.localities 0) 0 in
+      let s = split es [] (entries_of own ++ last) h.is in
+      let p : InParts r root lines own =
+      in_parts r root lines own h.begin (feeds_front r root (entries_of own) last (subst (FeedsReady r root) h.is h.feeds)) h.ready in
       let all : IsLegal r (s.front ++ s.back) = subst (IsLegal r) s.is legal in
       let front : IsLegal r s.front = legal_front r (first r) s.front s.back all in
       let here : (replayed r s.front).places 0 ≡ boot (roots r.localities 0) 0 =
@@ -179,15 +226,14 @@ module _ (r : Rules) (grammar : HasGrammar r) (laws : KeepsActLaws r) where
         is = s.is;
         legal = front;
         unfed = unfed_from r (first r) s.front (start_whole r) front (subst (AllByRecursion (λ e. FeedsNothing e.event)) (sym s.part_front) tt);
-        cut = cuts s.front s.back lines own last all s.snug s.part_back (subst (λ t. IsPatientPart r t lines own) (sym here) p);
+        cut = cuts s.front s.back lines own last all s.snug s.part_back (subst (λ t. InParts r t lines own) (sym here) p);
       }
 
   module _ (blind : IsBlind r) where
     pub console_plain : (es : List Entry) (lines : List (List ℕ)) (own : List (List Entry)) (last : List Entry) → IsLegal r es → NoneFails es
-        → LinesStay r es → part 0 es ≡ entries_of own ++ last → IsPatientPart r (boot (roots r.localities 0) 0) lines own
-        → IsPatientPlainSession r (boot_pool r) lines (shown own)
-    console_plain es lines own last legal fine stay h p =
-        let b = from_boot es lines own last legal h p in
+        → LinesStay r es → IsPatientPart r (part 0 es) lines own last → IsPatientPlainSession r (boot_pool r) lines (shown own)
+    console_plain es lines own last legal fine stay h =
+        let b = from_boot es lines own last legal h in
         let c = b.cut in
         let same : es ≡ (b.before ++ entries_of c.blocks) ++ c.rest =
         b.is ∙ (ap (λ zs. b.before ++ zs) c.is ∙ sym (append_assoc b.before (entries_of c.blocks) c.rest)) in
@@ -197,10 +243,9 @@ module _ (r : Rules) (grammar : HasGrammar r) (laws : KeepsActLaws r) where
         (stay_front r (b.before ++ entries_of c.blocks) c.rest (subst (LinesStay r) same stay)) c.session)
 
     pub console_front : (es : List Entry) (lines : List (List ℕ)) (own : List (List Entry)) (line : List ℕ) (last : List Entry) → IsLegal r es
-        → NoneFails es → LinesStay r es → part 0 es ≡ entries_of own ++ last → IsPatientPart r (boot (roots r.localities 0) 0) lines own
-        → BeginsWith line last → IsPatientPlainBrokenOff r (boot_pool r) lines (shown own) line (prints_of last)
-    console_front es lines own line last legal fine stay h p begins =
-        let b = from_boot es lines own last legal h p in
+        → NoneFails es → LinesStay r es → IsPatientPart r (part 0 es) lines own last → BeginsWith line last → IsPatientPlainBrokenOff r (boot_pool r) lines (shown own) line (prints_of last)
+    console_front es lines own line last legal fine stay h begins =
+        let b = from_boot es lines own last legal h in
         let c = b.cut in
         let x : List Entry = b.before ++ entries_of c.blocks in
         let same : es ≡ (b.before ++ entries_of c.blocks) ++ c.rest =

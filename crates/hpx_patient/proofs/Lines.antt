@@ -1,9 +1,9 @@
 -- Lines that are not done are at locality 0, where they stay.
-use Rattle.std.proofs.Common.{ℕ, Bool, true, false, cond, List, [], ◌∷◌, ◌++◌, ◌≡◌, ◌≢◌, ◌+◌, ◌≤◌, refl, sym, ap, ◌∙◌, subst, arith, inl, inr, map}
+use Rattle.std.proofs.Common.{ℕ, Bool, true, false, cond, List, [], ◌∷◌, ◌≡◌, ◌≢◌, ◌≤◌, refl, sym, ap, ◌∙◌, subst, arith, inl, inr, map}
 use Rattle.std.specs.Prelude.{◌==◌, ◌&&◌, codes}
 use Rattle.std.specs.List.{find, sum_by, AllByRecursion}
 use Rattle.std.proofs.lemmas.List.Sums.{sum_by-cons, sum_by-append}
-use Rattle.std.proofs.lemmas.Bool.{eq-eqb, ne_eqb, cases_eq}
+use Rattle.std.proofs.lemmas.Bool.{ne_eqb, cases_eq}
 use Rattle.hpx_value.specs.Ids.{same_object}
 use Rattle.hpx_value.specs.Values.{message_of}
 use Rattle.hpx_value.specs.declared.outcome.Sending.{Sending}
@@ -11,19 +11,19 @@ use Rattle.hpx_value.specs.declared.outcome.Reply.{Reply}
 use Rattle.hpx_value.specs.Hands.{Slot, session, id_at, own_slot, answer, sent, replied}
 use Rattle.hpx_value.specs.Riders.{plain, plain_message}
 use Rattle.hpx_value.proofs.Riders.{plain_code, plain_target}
-use Rattle.hpx_journal.specs.Data.{Id, State, Act, Fault, Message, Due, MessageDue, PrintDue}
+use Rattle.hpx_journal.specs.Data.{Id, State, Act, Fault, MessageDue, PrintDue}
 use Rattle.hpx_journal.specs.Entries.{Rules, target_of}
 use Rattle.hpx_journal.specs.Frames.{acts_in}
 use Rattle.hpx_journal.specs.Local.{after, is_act, due_left, failure, outcome}
 use Rattle.hpx_journal.specs.Rows.{Row}
-use Rattle.hpx_journal.specs.Whole.{Space, step, run, at_place, IsLegal, IsLegalFrom, MayStand, part, replayed}
+use Rattle.hpx_journal.specs.Whole.{Space, step, run, at_place, IsLegal, IsLegalFrom, MayStand, replayed}
 use Rattle.hpx_journal.specs.Laws.{HasGrammar, KeepsActLaws}
 use Rattle.hpx_journal.specs.Pool.{act_mass, due_mass, mass_at, mass, sent_by}
-use Rattle.hpx_journal.proofs.Mass.{messages, brings, ends, departs, due_messages, messages-due}
+use Rattle.hpx_journal.proofs.Mass.{messages, brings, departs, due_messages, messages-due}
 use Rattle.hpx_journal.proofs.SlotsWhole.{IsSlotted, slotted_run, start_slotted}
 use Rattle.hpx_journal.proofs.Start.{first, start_whole}
 use Rattle.hpx_journal.proofs.Wholes.{IsWhole, whole_step, at_same, at_other}
-use Rattle.hpx_patient.specs.Data.{Name, Event, Line, Done, Out, Entry, Local}
+use Rattle.hpx_patient.specs.Data.{Event, Line, Done, Out, Entry, Local}
 use Rattle.hpx_patient.specs.Lines.{is_line, line_count, SendsNoLine, LinesStay}
 use Rattle.hpx_patient.proofs.Claims.{AreLawful, mass_goes, done_due}
 use Rattle.hpx_patient.proofs.Awaited.{lawful_at, mass_step, start_mass}

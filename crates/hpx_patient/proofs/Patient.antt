@@ -1,5 +1,5 @@
 -- Sessions of a patient console, block after block: each is a run of the plain pool until nothing is pending for the session.
-use Rattle.std.proofs.Common.{ℕ, zero, suc, Bool, true, false, cond, List, [], ◌∷◌, ◌++◌, ◌≡◌, ◌+◌, ◌≤◌, refl, sym, ap, ◌∙◌, subst, arith, inl, inr, append_assoc, append-nil}
+use Rattle.std.proofs.Common.{ℕ, zero, suc, Bool, true, false, cond, List, [], ◌∷◌, ◌++◌, ◌≡◌, refl, sym, ap, ◌∙◌, subst, arith, inl, inr, append_assoc, append-nil}
 use Rattle.std.specs.List.{sum_by, AllByRecursion}
 use Rattle.std.proofs.lemmas.List.Sums.{sum_by-cons}
 use Rattle.hpx_journal.specs.Data.{Message}
@@ -10,7 +10,7 @@ use Rattle.hpx_journal.specs.Laws.{HasGrammar, KeepsActLaws}
 use Rattle.hpx_journal.specs.Pool.{Pool, fed, Goes, Runs, act_mass, due_mass, mass_at, prints_due, prints_of, Shows, IsBlind, NoneFails, boot_pool}
 use Rattle.hpx_journal.specs.Sessions.{FeedsNothing, BeginsWith, IsStep, Steps, at_rest, entries_of, shown}
 use Rattle.hpx_journal.proofs.Alls.{all-zip}
-use Rattle.hpx_journal.proofs.Fronts.{legal_front, legal_rest, run_append}
+use Rattle.hpx_journal.proofs.Fronts.{run_append}
 use Rattle.hpx_journal.proofs.Grow.{part_append}
 use Rattle.hpx_journal.proofs.Reduced.{boot_shows, none_front, legal_reduced}
 use Rattle.hpx_patient.specs.Data.{Name, Event, Line, Done, Landed, Entry, Local}

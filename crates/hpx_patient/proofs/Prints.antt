@@ -1,13 +1,12 @@
 -- Only the session prints, and it stands at 0.
-use Rattle.std.proofs.Common.{ℕ, Bool, true, false, cond, List, [], ◌∷◌, ◌++◌, ◌≡◌, ◌≢◌, refl, sym, ap, ◌∙◌, subst, arith, inl, inr, map}
+use Rattle.std.proofs.Common.{ℕ, true, false, cond, List, [], ◌∷◌, ◌++◌, ◌≡◌, ◌≢◌, refl, sym, ap, ◌∙◌, subst, inl, inr, map}
 use Rattle.std.specs.Prelude.{◌==◌, codes}
-use Rattle.std.proofs.lemmas.Bool.{eq-eqb, eqb-true, ne_eqb, cases_eq, cases_Bool}
-use Rattle.hpx_value.specs.Ids.{same_object}
+use Rattle.std.proofs.lemmas.Bool.{eq-eqb, ne_eqb, cases_eq}
 use Rattle.hpx_value.specs.Hands.{Slot, answer, own_slot}
 use Rattle.hpx_journal.specs.Data.{Act, Fault, Due, MessageDue, PrintDue}
 use Rattle.hpx_journal.specs.Entries.{Rules, target_of}
-use Rattle.hpx_patient.specs.Data.{Name, Event, Done, Entry, Standing, Local}
-use Rattle.hpx_journal.specs.Local.{after, is_standing, failure, outcome}
+use Rattle.hpx_patient.specs.Data.{Name, Event, Done, Entry, Local}
+use Rattle.hpx_journal.specs.Local.{after, is_standing, failure}
 use Rattle.hpx_journal.specs.Rows.{Row, Runs}
 use Rattle.hpx_journal.specs.Whole.{Space, step, run, at_place, MayStand, IsLegalFrom, IsLegal, part, replayed}
 use Rattle.hpx_journal.specs.Laws.{HasGrammar, KeepsActLaws}

@@ -4,10 +4,12 @@ use Rattle.std.specs.Prelude.{ℕ, false, List, [], ◌∷◌, ◌++◌, ◌≡�
 use Rattle.std.specs.List.{AllByRecursion}
 use Rattle.hpx_journal.specs.Data.{Message}
 use Rattle.hpx_journal.specs.Entries.{Rules}
+use Rattle.hpx_journal.specs.Local.{after, boot}
+use Rattle.hpx_journal.specs.Roots.{roots}
 use Rattle.hpx_journal.specs.Whole.{IsLegal, replayed, run_local}
 use Rattle.hpx_journal.specs.Pool.{Pool, fed}
-use Rattle.hpx_journal.specs.Sessions.{BeginsWith, Steps, at_rest}
-use Rattle.hpx_patient.specs.Data.{Entry, Local}
+use Rattle.hpx_journal.specs.Sessions.{BeginsWith, Steps, at_rest, entries_of}
+use Rattle.hpx_patient.specs.Data.{Event, Line, Entry, Local}
 use Rattle.hpx_patient.specs.Claims.{session_claims, awaited_at}
 use Rattle.hpx_patient.specs.Lines.{is_line}
 
@@ -32,11 +34,29 @@ IsPatientSession r before _ _ = ⊥
 
 -- ---- what a console knows of its own part
 
--- the part of locality 0 in blocks: each begins with its line, and behind each the console is ready
-abbrev pub IsPatientPart : Rules → Local → List (List ℕ) → List (List Entry) → Type 0
-IsPatientPart r s [] [] = Unit {0}
-IsPatientPart r s (line ∷ lines) (es ∷ blocks) = BeginsWith line es × IsReady (run_local r s es) × IsPatientPart r (run_local r s es) lines blocks
-IsPatientPart r s _ _ = ⊥
+-- where an event is a line
+abbrev pub IfLine : Event → Type 0 → Type 0
+IfLine (Line a bytes) P = P
+IfLine _ P = Unit {0}
+
+-- each line is fed where the console is ready
+abbrev pub FeedsReady : Rules → Local → List Entry → Type 0
+FeedsReady r s [] = Unit {0}
+FeedsReady r s (e ∷ es) = IfLine e.event (IsReady s) × FeedsReady r (after r s e.event) es
+
+-- each block begins with its line
+abbrev pub AreBlocks : List (List ℕ) → List (List Entry) → Type 0
+AreBlocks [] [] = Unit {0}
+AreBlocks (line ∷ lines) (es ∷ blocks) = BeginsWith line es × AreBlocks lines blocks
+AreBlocks _ _ = ⊥
+
+-- the part of locality 0 is blocks and then the last entries; each line was fed where the console was ready, and so it was behind
+-- the blocks
+pub record IsPatientPart (r : Rules) (own : List Entry) (lines : List (List ℕ)) (blocks : List (List Entry)) (last : List Entry) : Type 0 where
+  pub begin : AreBlocks lines blocks
+  pub is : own ≡ entries_of blocks ++ last
+  pub feeds : FeedsReady r (boot (roots r.localities 0) 0) own
+  pub ready : IsReady (run_local r (boot (roots r.localities 0) 0) (entries_of blocks))
 
 -- ---- the same over the plain pool
 

@@ -1,9 +1,7 @@
 //! What a legal journal over several localities keeps of its console: the contracts are the laws.
-ghost use Rattle.std.specs.Prelude.{ℕ, List, [], ◌++◌, ◌≡◌, ◌≤◌, ◌+◌};
+ghost use Rattle.std.specs.Prelude.{ℕ, List, ◌++◌, ◌≡◌, ◌≤◌, ◌+◌};
 ghost use Rattle.std.specs.List.{AllByRecursion};
 ghost use Rattle.hpx_journal.specs.Entries.{Rules};
-ghost use Rattle.hpx_journal.specs.Local.{boot};
-ghost use Rattle.hpx_journal.specs.Roots.{roots};
 ghost use Rattle.hpx_journal.specs.Whole.{IsLegal, part, replayed};
 ghost use Rattle.hpx_journal.specs.Laws.{HasGrammar, KeepsActLaws};
 ghost use Rattle.hpx_journal.specs.Pool.{Pool, Shows, IsBlind, NoneFails, boot_pool, mass, mass_at, prints_of};
@@ -57,10 +55,10 @@ pub fn patient_law()
 /// prints; where the entries behind the blocks begin with a line, what they print begins what the pool prints.
 pub fn console_law()
     ensures plain { (r : Rules) (es : List Entry) (lines : List (List ℕ)) (blocks : List (List Entry)) (last : List Entry) → HasGrammar r →
-        KeepsActLaws r → IsBlind r → IsLegal r es → NoneFails es → LinesStay r es → part 0 es ≡ entries_of blocks ++ last →
-        IsPatientPart r (boot (roots r.localities 0) 0) lines blocks → IsPatientPlainSession r (boot_pool r) lines (shown blocks) }
+        KeepsActLaws r → IsBlind r → IsLegal r es → NoneFails es → LinesStay r es → IsPatientPart r (part 0 es) lines blocks last →
+        IsPatientPlainSession r (boot_pool r) lines (shown blocks) }
     ensures broken_off { (r : Rules) (es : List Entry) (lines : List (List ℕ)) (blocks : List (List Entry)) (line : List ℕ)
         (last : List Entry) → HasGrammar r → KeepsActLaws r → IsBlind r → IsLegal r es → NoneFails es → LinesStay r es →
-        part 0 es ≡ entries_of blocks ++ last → IsPatientPart r (boot (roots r.localities 0) 0) lines blocks → BeginsWith line last →
+        IsPatientPart r (part 0 es) lines blocks last → BeginsWith line last →
         IsPatientPlainBrokenOff r (boot_pool r) lines (shown blocks) line (prints_of last) }
 {}
