@@ -17,7 +17,7 @@ use Rattle.hpx_journal.proofs.Start.{first, start_whole, legal_whole}
 use Rattle.hpx_journal.proofs.Wholes.{IsWhole, whole_step}
 use Rattle.hpx_patient.specs.Data.{Event, Line, Entry, Local}
 use Rattle.hpx_patient.specs.Lines.{LinesStay}
-use Rattle.hpx_patient.specs.Patient.{IsReady, IsPatientSession, IfLine, FeedsReady, AreBlocks, IsPatientPart, IsPatientPlainSession, IsPatientPlainBrokenOff}
+use Rattle.hpx_patient.specs.Patient.{IsReady, IsPatientBlock, IsPatientSession, IfLine, FeedsReady, AreBlocks, IsPatientPart, IsPatientPlainSession, IsPatientPlainBrokenOff}
 use Rattle.hpx_patient.proofs.Patient.{stay_front, patient_plain, patient_front}
 use Rattle.hpx_patient.proofs.Prints.{part_first, part_skips, prints_behind}
 
@@ -165,38 +165,51 @@ record AreCut (r : Rules) (before es : List Entry) (lines : List (List ℕ)) (ow
   part_rest : part 0 rest ≡ last
   snug : IsSnug rest
 
+-- what is left at 0 behind these entries
+place_behind : (r : Rules) (before front own : List Entry) → part 0 front ≡ own
+    → (replayed r (before ++ front)).places 0 ≡ run_local r ((replayed r before).places 0) own
+place_behind r before front own h =
+    ap (λ (x : Space). x.places 0) (run_append r (first r) before front)
+    ∙ (run_part r (replayed r before) front 0 ∙ ap (run_local r ((replayed r before).places 0)) h)
+
 module _ (r : Rules) (grammar : HasGrammar r) (laws : KeepsActLaws r) where
+  module _ (before es : List Entry) (line : List ℕ) (lines : List (List ℕ)) (b : List Entry) (own : List (List Entry)) (last : List Entry)
+      (legal : IsLegal r (before ++ es)) (snug : IsSnug es) (s : IsSplit es b (entries_of own ++ last)) where
+    all_legal : IsLegal r ((before ++ s.front) ++ s.back)
+    all_legal = subst (IsLegal r) (sym (append_assoc before s.front s.back)) (subst (λ zs. IsLegal r (before ++ zs)) s.is legal)
+
+    here_legal : IsLegal r (before ++ s.front)
+    here_legal = legal_front r (first r) (before ++ s.front) s.back all_legal
+
+    one_block : BeginsWith line b → IsReady (run_local r ((replayed r before).places 0) b) → IsPatientBlock r before line s.front
+    one_block begins ready = record {
+      legal = here_legal;
+      begins = begins_whole r (replayed r before) s.front b line (legal_whole r before (legal_front r (first r) before s.front here_legal))
+          (legal_rest r (first r) before s.front here_legal) (snug_front s.front s.back (subst IsSnug s.is snug)) s.part_front begins;
+      ready = subst IsReady (sym (place_behind r before s.front b s.part_front)) ready;
+    }
+
+    cut_one : BeginsWith line b → IsReady (run_local r ((replayed r before).places 0) b) → AreCut r (before ++ s.front) s.back lines own last
+        → AreCut r before es (line ∷ lines) (b ∷ own) last
+    cut_one begins ready rest = record {
+      blocks = s.front ∷ rest.blocks;
+      rest = rest.rest;
+      is = s.is ∙ (ap (λ zs. s.front ++ zs) rest.is ∙ sym (append_assoc s.front (entries_of rest.blocks) rest.rest));
+      session = (one_block begins ready, rest.session);
+      texts = ap (λ t. t ∷ shown rest.blocks) (prints_behind r grammar laws before s.front here_legal ∙ ap prints_of s.part_front)
+          ∙ ap (λ ts. prints_of b ∷ ts) rest.texts;
+      part_rest = rest.part_rest;
+      snug = rest.snug;
+    }
+
   cuts : (before es : List Entry) (lines : List (List ℕ)) (own : List (List Entry)) (last : List Entry) → IsLegal r (before ++ es) → IsSnug es
       → part 0 es ≡ entries_of own ++ last → InParts r ((replayed r before).places 0) lines own → AreCut r before es lines own last
   cuts before es [] [] last legal snug h p = record { blocks = []; rest = es; is = refl; session = tt; texts = refl; part_rest = h; snug = snug }
   cuts before es (line ∷ lines) (b ∷ own) last legal snug h p =
-      let w : Space = replayed r before in
       let s = split es b (entries_of own ++ last) (h ∙ append_assoc b (entries_of own) last) in
-      let all : IsLegal r ((before ++ s.front) ++ s.back) =
-      subst (IsLegal r) (sym (append_assoc before s.front s.back)) (subst (λ zs. IsLegal r (before ++ zs)) s.is legal) in
-      let legal_here : IsLegal r (before ++ s.front) = legal_front r (first r) (before ++ s.front) s.back all in
-      let here : (replayed r (before ++ s.front)).places 0 ≡ run_local r (w.places 0) b =
-      ap (λ (x : Space). x.places 0) (run_append r (first r) before s.front)
-      ∙ (run_part r w s.front 0 ∙ ap (run_local r (w.places 0)) s.part_front) in
-      let rest = cuts (before ++ s.front) s.back lines own last all s.snug s.part_back (subst (λ t. InParts r t lines own) (sym here) p.2) in
-      record {
-        blocks = s.front ∷ rest.blocks;
-        rest = rest.rest;
-        is = s.is ∙ (ap (λ zs. s.front ++ zs) rest.is ∙ sym (append_assoc s.front (entries_of rest.blocks) rest.rest));
-        session = (
-          record {
-            legal = legal_here;
-            begins = begins_whole r w s.front b line (legal_whole r before (legal_front r (first r) before s.front legal_here))
-                (legal_rest r (first r) before s.front legal_here) (snug_front s.front s.back (subst IsSnug s.is snug)) s.part_front p.0;
-            ready = subst IsReady (sym here) p.1;
-          },
-          rest.session,
-        );
-        texts = ap (λ t. t ∷ shown rest.blocks) (prints_behind r grammar laws before s.front legal_here ∙ ap prints_of s.part_front)
-            ∙ ap (λ ts. prints_of b ∷ ts) rest.texts;
-        part_rest = rest.part_rest;
-        snug = rest.snug;
-      }
+      cut_one before es line lines b own last legal snug s p.0 p.1
+      (cuts (before ++ s.front) s.back lines own last (all_legal before es line lines b own last legal snug s) s.snug s.part_back
+      (subst (λ t. InParts r t lines own) (sym (place_behind r before s.front b s.part_front)) p.2))
   cuts before es [] (x ∷ xs) last legal snug h p = absurd p
   cuts before es (x ∷ xs) [] last legal snug h p = absurd p
 
