@@ -57,13 +57,13 @@ waits n k v bytes p h = record {
 
 module _ (acts : Acting) (n log limit : ℕ) (parcel_of : List ℕ → Option Parcel) (some : 1 ≤ n) (few : n ≤ 64) (k : ℕ) (little : k + 1 ≤ 4000000000) (lower : k ≤ 4000000000) (v : Plain) (con : Console)
     (mark : ℕ) (line : List ℕ) (mark_is : Session.console_of mark ≡ Some con) (short : length line ≤ 16384) (first : IsFirst con v) where
-  abbrev r : Rules
+  abbrev pub r : Rules
   r = judging acts n log limit parcel_of
 
-  abbrev e : End
+  abbrev pub e : End
   e = line_end con n v line
 
-  abbrev Phase : Pool → Type 0
+  abbrev pub Phase : Pool → Type 0
   Phase p = Fed n k v (mark ∷ line) p ⊎ (IsAsked n (k + 1) v e p ⊎ Answering n (k + 1) e.plain e.text p)
 
   asked_next : (q : Pool) (x : End) → e ≡ x → Answering n (k + 1) x.plain x.text q → Answering n (k + 1) e.plain e.text q
@@ -78,11 +78,11 @@ module _ (acts : Acting) (n log limit : ℕ) (parcel_of : List ℕ → Option Pa
       by_step (inr y) = inr (inr (asked_next q (call_end v x.who (call_by x.code x.args x.what)) x.ends y))
   phase_step p q (inr (inr x)) step = inr (inr (answer_step acts n log limit parcel_of few (k + 1) little e.plain e.text p q x step))
 
-  phases : (j : ℕ) (p q : Pool) → Phase p → Steps r j p q → Phase q
+  pub phases : (j : ℕ) (p q : Pool) → Phase p → Steps r j p q → Phase q
   phases zero p q x is = subst Phase (sym is) x
   phases (suc j) p q x steps = phases j steps.0 q (phase_step p steps.0 x steps.1) steps.2
 
-  ended : (q : Pool) → Phase q → q.pending ≡ [] → Settled n (k + 1) e.plain q × (concat q.printed ≡ e.text)
+  pub ended : (q : Pool) → Phase q → q.pending ≡ [] → Settled n (k + 1) e.plain q × (concat q.printed ≡ e.text)
   ended q (inl f) none = absurd (let g : line_message (mark ∷ line) ∷ [] ≡ [] = sym f.pending ∙ none in cc)
   ended q (inr (inl x)) none = absurd (let g = sym x.asking.pending ∙ none in cc)
   ended q (inr (inr x)) none = over n (k + 1) e.plain e.text q x none

@@ -1,0 +1,4 @@
+//! What a patient console's session prints, over several localities.
+#![tactic(auto)]
+
+pub mod text_law;
