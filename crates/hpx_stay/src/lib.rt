@@ -1,0 +1,4 @@
+//! What nodes keep, as a patient console's laws want it.
+#![tactic(auto)]
+
+pub mod stay;
