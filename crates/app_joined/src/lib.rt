@@ -1,0 +1,4 @@
+//! What a console writes whose localities are processes.
+#![tactic(auto)]
+
+pub mod joined;
