@@ -1,4 +1,7 @@
 //! The program as a shell starts it.
+ghost use Rattle.std.specs.Prelude.{◌≡◌};
+ghost use Rattle.std.specs.Process.{exit_status};
+
 use crate::program::{program, say_no_memory};
 use hpx_ports::adapters::{ReaderSource, WriterSink};
 use hpx_ports::gate::OpenGate;
@@ -37,6 +40,8 @@ pub fn start<
 }
 
 /// Says that there is no memory to begin with, and ends with status 6.
-pub fn stop_without_memory(rt: &HostRuntime) -> ExitCode {
+pub fn stop_without_memory(rt: &HostRuntime) -> ExitCode
+    ensures { exit_status result ≡ 6 }
+{
     say_no_memory(&mut WriterSink::new(rt.stderr()))
 }
