@@ -13,7 +13,7 @@ use hpx_value::profile::Profile;
 /// Which locality a process is.
 #[derive(Clone, Copy, Debug, PartialEq, Eq)]
 pub enum Role {
-    /// Locality 0, which reads and writes. With `settles` it waits before each line but the first until all is done everywhere.
+    /// Locality 0, which reads and writes. With `settles` it feeds each line but the first behind a round whose counts agree.
     Console { settles: bool },
     /// Another locality, which does neither.
     Worker { node: u32 },
