@@ -68,6 +68,12 @@ is_found n (Some m) = n == m
 abbrev pub verdict_of : Tally → Verdict
 verdict_of t = cond (waits t) Unfinished (cond (is_found (sum_by sent_of t.answers) t.earlier) Ended Again)
 
+-- the last wave that has a number has shown that the round goes on, and there are other members: none is left
+pub record IsSpent (t : Tally) : Type 0 where
+  pub others : 1 < length t.answers
+  pub last : t.begun ≡ 4294967295
+  pub again : verdict_of t ≡ Again
+
 -- the answers to the last wave are the members' numbers at wave w, and what was accepted at the one before is known
 pub record Tells (r : Rules) (es : List Entry) (v : Answers) (w : ℕ) (t : Tally) : Type 0 where
   pub members : length t.answers ≡ r.localities

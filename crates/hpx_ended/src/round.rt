@@ -1,7 +1,7 @@
 //! The waves of one round: each member tells once in a wave how many frames it has sent and accepted.
 ghost use Rattle.std.specs.Prelude.{◌≡◌, ◌≤◌, ◌<◌, ◌+◌, length, IfOk, IfErr, IsErr, OnOk, ◌↔◌, IsTrue, false};
 ghost use Rattle.std.specs.List.{sum_by, list_any, slice_get};
-ghost use Rattle.hpx_ended.specs.Tally.{Tally, fresh, MayCount, is_missing, sent_of, taken_of, waits, current, opened, counted, verdict_of};
+ghost use Rattle.hpx_ended.specs.Tally.{Tally, fresh, IsSpent, MayCount, is_missing, sent_of, taken_of, waits, current, opened, counted, verdict_of};
 
 use hpx_value::memory::OutOfMemory;
 use std::alloc::Global;
@@ -134,6 +134,13 @@ impl Waves {
         ensures { IsTrue result ↔ (slice_get self.now.answers node ≡ Some None) }
     {
         matches!(self.answers.get(node as usize), Some(None))
+    }
+
+    /// Whether no wave is left: there are other members, and the last wave that has a number does not end the round.
+    pub fn is_spent(&self) -> bool
+        ensures { IsTrue result ↔ IsSpent self.now }
+    {
+        self.begun == u32::MAX && self.answers.len() > 1 && self.verdict() == Verdict::Again
     }
 
     /// What the waves show so far.
