@@ -1,6 +1,7 @@
 -- The turns of a console, as its journal and its link grow.
 use Rattle.std.proofs.Common.{true, false, ℕ, zero, suc, Bool, List, [], ◌∷◌, ◌++◌, ◌≡◌, ◌<◌, ◌≤◌, ◌+◌, refl, sym, ap, ◌∙◌, subst, arith, inl, inr, length, append-nil, append_assoc, Option, Some, None}
-use Rattle.std.specs.List.{AllByRecursion}
+use Rattle.std.specs.Prelude.{replicate, set}
+use Rattle.std.specs.List.{AllByRecursion, list_any}
 use Rattle.std.proofs.lemmas.List.{take-append-le, length-append, length-replicate, length-set}
 use Rattle.std.proofs.Math.Seq.{take-append_seam}
 use Rattle.hpx_journal.specs.Entries.{Rules}
@@ -9,20 +10,24 @@ use Rattle.hpx_journal.specs.Sessions.{FeedsNothing}
 use Rattle.hpx_journal.specs.Whole.{IsClean}
 use Rattle.hpx_part.specs.Data.{Entry, Event, Line, Name}
 use Rattle.hpx_part.specs.Parts.{at_boot}
-use Rattle.hpx_ended.specs.Tally.{Tally, MayCount, counted, fresh, opened, verdict_of, waits}
+use Rattle.hpx_ended.specs.Tally.{Tally, IsSpent, MayCount, counted, fresh, is_missing, opened, verdict_of, waits}
 use Rattle.hpx_ended.specs.Waves.{BeginsAwake}
 use Rattle.hpx_ended.specs.declared.round.Counted.{Counted}
-use Rattle.hpx_ended.specs.declared.round.Verdict.TheVariants.{Ended}
+use Rattle.hpx_ended.specs.declared.round.Verdict.TheVariants.{Again, Ended, Unfinished}
 use Rattle.hpx_ports.specs.Told.{followed}
 use Rattle.hpx_ports.specs.declared.link.Post.{Post}
 use Rattle.hpx_ports.specs.declared.link.Post.TheVariants.{Sent, Received}
 use Rattle.hpx_member.specs.Bodies.{end_body, frames_got, frames_sent, is_frame}
 use Rattle.hpx_member.specs.Leads.{ToldSome}
-use Rattle.hpx_member.specs.Rounds.{AreCounted, AreOwn, Asks, AsksBut, Asking, Began, Closed, Ending, Fed, Anew, IsBehind, IsCountedAt, IsDue, IsOwnAt, IsStillBehind, IsTold, IsUnasked, MayGoOn, Nothing, Refused, TakesCounts, Took, Turn, line_at, lines_from, phase_of, said, tally_of, told_all, told_others, wave_body, word_by, words}
+use Rattle.hpx_member.specs.Rounds.{AreCounted, AreOwn, Asks, AsksBut, Asking, IsAsked, Began, Closed, Ending, Fed, Anew, IsBehind, IsCountedAt, IsDue, IsOwnAt, IsStillBehind, IsTold, IsUnasked, MayGoOn, Nothing, Refused, Spent, TakesCounts, Took, Turn, line_at, lines_from, phase_of, said, tally_of, told_all, told_others, wave_body, word_by, words}
 use Rattle.hpx_member.specs.Seats.{MaySend}
 use Rattle.hpx_member.specs.declared.console.Phase.{Phase}
 use Rattle.hpx_member.specs.declared.console.Phase.TheVariants.{Unfed, Serving, LinesOver}
 use Rattle.hpx_member.proofs.Grown.{counts_is, flat-append, flat-one, may_grow, none_later}
+
+followed_none : (trace : Option (List Post)) → trace ≡ followed trace []
+followed_none None = refl
+followed_none (Some tr) = ap (λ x. Some x) (sym (append-nil tr))
 
 some_is : (a b : List Post) → Some a ≡ Some b → a ≡ b
 some_is a b h = cc
@@ -161,6 +166,25 @@ words_told body (suc k) h =
     flat-one word_by (told_all body k) (Sent (suc k) body)
     ∙ (ap (λ zs. zs ++ word_by (Sent (suc k) body)) (words_told body k h) ∙ ap (λ zs. told_all body k ++ zs) one)
 
+-- ---- waves that are not spent
+
+fresh_unspent : (n : ℕ) (t : Tally) → t ≡ fresh n → IsSpent t → ⊥
+fresh_unspent n t is s = absurd (omega (arith, s.last, ap (λ (y : Tally). y.begun) is))
+
+-- where there are two members, an answer is missing to a wave that was begun
+some_missing : (x : Counted) (answers : List (Option Counted)) → 1 < length (set (replicate (length answers) None) 0 (Some x))
+    → list_any is_missing (set (replicate (length answers) None) 0 (Some x)) ≡ true
+some_missing x [] h = absurd (omega (arith, h))
+some_missing x (a ∷ []) h = absurd (omega (arith, h))
+some_missing x (a ∷ (b ∷ answers)) h = refl
+
+opened_unspent : (x : Counted) (t t' : Tally) → t' ≡ opened x t → IsSpent t' → ⊥
+opened_unspent x t t' is s =
+    let two : 1 < length (opened x t).answers = subst (λ (y : Tally). 1 < length y.answers) is s.others in
+    let missing : waits (opened x t) ≡ true = some_missing x t.answers two in
+    let shown : verdict_of (opened x t) ≡ Unfinished = rw missing refl in
+    absurd (let odd : Again ≡ Unfinished = sym s.again ∙ (ap verdict_of is ∙ shown) in cc)
+
 -- ---- calls
 
 module _ (r : Rules) (settles : Bool) (phase : Phase) (idle : Type 0) (es : List Entry) where
@@ -180,6 +204,7 @@ module _ (r : Rules) (settles : Bool) (phase : Phase) (idle : Type 0) (es : List
     still = still_grows r es later idle idle' a.turns a.asked.course.own a.still still;
     far = a.far;
     is = a.is;
+    unspent = a.unspent;
   }
 
   asks_posts : (trace trace' : Option (List Post)) (xs : List Post) (t : Tally) → Asks r settles phase idle es trace t → trace' ≡ followed trace xs
@@ -194,6 +219,7 @@ module _ (r : Rules) (settles : Bool) (phase : Phase) (idle : Type 0) (es : List
     still = a.still;
     far = a.far;
     is = a.is;
+    unspent = a.unspent;
   }
 
   pub asks_sent : (trace trace' : Option (List Post)) (t : Tally) → Asks r settles phase idle es trace t → MaySend trace trace' → Asks r settles phase idle es trace' t
@@ -206,29 +232,50 @@ module _ (r : Rules) (settles : Bool) (phase : Phase) (idle : Type 0) (es : List
   asks_heard trace trace' from body t a framed told =
       let none : words (Received from body ∷ []) ≡ [] = rw framed refl in asks_posts trace trace' (Received from body ∷ []) t a told none
 
-  pub asks_took : (trace trace' : Option (List Post)) (from : ℕ) (body : List ℕ) (t t' : Tally) → Asks r settles phase idle es trace t → TakesCounts from body t t'
-      → trace' ≡ followed trace (Received from body ∷ []) → Asks r settles phase idle es trace' t'
-  asks_took trace trace' from body t t' a took told =
+  -- Counts came
+  took_asked : (trace trace' : Option (List Post)) (from : ℕ) (body : List ℕ) (t t' : Tally) (a : Asks r settles phase idle es trace t)
+      (took : TakesCounts from body t t') → trace' ≡ followed trace (Received from body ∷ []) → IsAsked r settles es trace' (Took from body took.told ∷ a.turns)
+  took_asked trace trace' from body t t' a took told =
       let one : word_by (Received from body) ≡ Received from body ∷ [] = rw (counts_is body took.told took.counts) refl in
       record {
-        turns = Took from body took.told ∷ a.turns;
-        asked = record {
-          course = record {
-            order = ((took.counts, subst (λ x. MayCount x from took.told.wave) a.is took.may), a.asked.course.order);
-            own = a.asked.course.own;
-            lines = a.asked.course.lines;
-          };
-          told = followed_told (IsTold r.localities a.turns) (IsTold r.localities (Took from body took.told ∷ a.turns)) trace trace' (Received from body ∷ []) told
-              (λ old h. record {
-                words = flat-one word_by old (Received from body)
-                    ∙ (ap (λ zs. zs ++ word_by (Received from body)) h.words ∙ ap (λ zs. said r.localities a.turns ++ zs) one);
-                counted = counted_grow r.localities old (Received from body ∷ []) a.turns h.counted;
-              }) a.asked.told;
+        course = record {
+          order = ((took.counts, subst (λ x. MayCount x from took.told.wave) a.is took.may), a.asked.course.order);
+          own = a.asked.course.own;
+          lines = a.asked.course.lines;
         };
-        still = a.still;
-        far = a.far;
-        is = took.is ∙ ap (counted from (record { sent = took.told.sent; taken = took.told.taken })) a.is;
+        told = followed_told (IsTold r.localities a.turns) (IsTold r.localities (Took from body took.told ∷ a.turns)) trace trace' (Received from body ∷ []) told
+            (λ old h. record {
+              words = flat-one word_by old (Received from body)
+                  ∙ (ap (λ zs. zs ++ word_by (Received from body)) h.words ∙ ap (λ zs. said r.localities a.turns ++ zs) one);
+              counted = counted_grow r.localities old (Received from body ∷ []) a.turns h.counted;
+            }) a.asked.told;
       }
+
+  took_tally : (trace : Option (List Post)) (from : ℕ) (body : List ℕ) (t t' : Tally) (a : Asks r settles phase idle es trace t) (took : TakesCounts from body t t')
+      → t' ≡ tally_of r.localities (Took from body took.told ∷ a.turns)
+  took_tally trace from body t t' a took = took.is ∙ ap (counted from (record { sent = took.told.sent; taken = took.told.taken })) a.is
+
+  pub asks_took : (trace trace' : Option (List Post)) (from : ℕ) (body : List ℕ) (t t' : Tally) → Asks r settles phase idle es trace t → TakesCounts from body t t'
+      → (IsSpent t' → ⊥) → trace' ≡ followed trace (Received from body ∷ []) → Asks r settles phase idle es trace' t'
+  asks_took trace trace' from body t t' a took unspent told = record {
+    turns = Took from body took.told ∷ a.turns;
+    asked = took_asked trace trace' from body t t' a took told;
+    still = a.still;
+    far = a.far;
+    is = took_tally trace from body t t' a took;
+    unspent = unspent;
+  }
+
+  -- and no wave is left
+  pub asks_spent : (trace trace' : Option (List Post)) (from : ℕ) (body : List ℕ) (t t' : Tally) → Asks r settles phase idle es trace t → TakesCounts from body t t'
+      → IsSpent t' → trace' ≡ followed trace (Received from body ∷ []) → AsksBut r settles es trace' Spent
+  asks_spent trace trace' from body t t' a took spent told = record {
+    earlier = trace';
+    is = followed_none trace';
+    turns = Took from body took.told ∷ a.turns;
+    asked = took_asked trace trace' from body t t' a took told;
+    closes = subst IsSpent (took_tally trace from body t t' a took) spent;
+  }
 
   -- nothing is said, and the round is over
   silent_turn : (x : Turn) (turns : List Turn) → said r.localities (x ∷ turns) ≡ said r.localities turns → ((tr : List Post) → AreCounted r.localities tr turns
@@ -237,13 +284,14 @@ module _ (r : Rules) (settles : Bool) (phase : Phase) (idle : Type 0) (es : List
   silent_turn x turns same counts trace told tr t =
       let h = told tr t in record { words = h.words ∙ sym same; counted = counts tr h.counted }
 
-  pub asks_anew : (trace : Option (List Post)) (t t' : Tally) → Asks r settles phase idle es trace t → waits t ≡ false → t.begun ≡ 4294967295 → t' ≡ fresh r.localities
+  pub asks_anew : (trace : Option (List Post)) (t t' : Tally) → Asks r settles phase idle es trace t → waits t ≡ false → t.begun ≡ 4294967295
+      → length t.answers ≡ 1 → t' ≡ fresh r.localities
       → Asks r settles phase idle es trace t'
-  asks_anew trace t t' a done last is = record {
+  asks_anew trace t t' a done last alone is = record {
     turns = Anew ∷ a.turns;
     asked = record {
       course = record {
-        order = (subst (λ x. (waits x ≡ false) × (x.begun ≡ 4294967295)) a.is (done, last), a.asked.course.order);
+        order = (subst (λ (x : Tally). (waits x ≡ false) × (x.begun ≡ 4294967295) × (length x.answers ≡ 1)) a.is (done, last, alone), a.asked.course.order);
         own = a.asked.course.own;
         lines = a.asked.course.lines;
       };
@@ -252,6 +300,7 @@ module _ (r : Rules) (settles : Bool) (phase : Phase) (idle : Type 0) (es : List
     still = a.still;
     far = a.far;
     is = is;
+    unspent = fresh_unspent r.localities t' is;
   }
 
   -- a line may be fed, or the lines be over
@@ -274,6 +323,7 @@ module _ (r : Rules) (settles : Bool) (phase : Phase) (idle : Type 0) (es : List
     still = a.still;
     far = refl;
     is = is;
+    unspent = fresh_unspent r.localities t' is;
   }
 
   pub asks_fed : (idle' : Type 0) (at : ℕ) (a : Name) (bytes : List ℕ) (trace : Option (List Post)) (t t' : Tally) → Asks r settles phase idle es trace t
@@ -297,6 +347,7 @@ module _ (r : Rules) (settles : Bool) (phase : Phase) (idle : Type 0) (es : List
     still = tt;
     far = refl;
     is = is;
+    unspent = fresh_unspent r.localities t' is;
   }
 
 -- how many posts there are, where it tells
@@ -333,14 +384,14 @@ began_told n e x turns (Some old) trace' xs is posts all frames told tr t =
     }
 
 pub asks_began : (r : Rules) (settles : Bool) (phase : Phase) (idle : Type 0) (es : List Entry) (trace trace' : Option (List Post)) (others : ℕ) (x : Counted) (t t' : Tally)
-    → Asks r settles phase idle es trace t → idle → r.localities ≡ suc others → waits t ≡ false → IsDue settles phase → IsOwnAt r es (length es) x
+    → Asks r settles phase idle es trace t → idle → r.localities ≡ suc others → waits t ≡ false → IsDue settles phase → t.begun < 4294967295 → IsOwnAt r es (length es) x
     → ((tr : List Post) → trace ≡ Some tr → (x.sent ≡ length (frames_sent 0 tr)) × (x.taken ≡ length (frames_got 0 tr)))
     → trace' ≡ followed trace (told_all (wave_body t.begun) others) → t' ≡ opened x t → Asks r settles phase idle es trace' t'
-asks_began r settles phase idle es trace trace' others x t t' a now members done due own frames told is = record {
+asks_began r settles phase idle es trace trace' others x t t' a now members done due more own frames told is = record {
   turns = Began (count_in trace) (length es) x ∷ a.turns;
   asked = record {
     course = record {
-      order = ((subst (λ y. waits y ≡ false) a.is done, subst (IsDue settles) a.far due), a.asked.course.order);
+      order = ((subst (λ y. waits y ≡ false) a.is done, subst (IsDue settles) a.far due, subst (λ (y : Tally). y.begun < 4294967295) a.is more), a.asked.course.order);
       own = (own, behind_all r es a.turns a.asked.course.own, a.asked.course.own);
       lines = a.asked.course.lines;
     };
@@ -352,6 +403,7 @@ asks_began r settles phase idle es trace trace' others x t t' a now members done
   still = λ j. now;
   far = a.far;
   is = is ∙ ap (opened x) a.is;
+  unspent = opened_unspent x t t' is;
 }
 
 -- ---- at the start
@@ -367,18 +419,18 @@ asks_first r settles idle es trace t none empty is = record {
   still = tt;
   far = refl;
   is = is;
+  unspent = fresh_unspent r.localities t is;
 }
 
 -- ---- where it ends
 
-followed_none : (trace : Option (List Post)) → trace ≡ followed trace []
-followed_none None = refl
-followed_none (Some tr) = ap (λ x. Some x) (sym (append-nil tr))
-
 module _ (r : Rules) (settles : Bool) (phase : Phase) (idle : Type 0) (es : List Entry) (trace trace' : Option (List Post)) (t : Tally)
     (a : Asks r settles phase idle es trace t) where
+  unspent_here : IsSpent (tally_of r.localities a.turns) → ⊥
+  unspent_here = subst (λ y. IsSpent y → ⊥) a.is a.unspent
+
   pub asks_whole : AsksBut r settles es trace Nothing
-  asks_whole = record { earlier = trace; is = followed_none trace; turns = a.turns; asked = a.asked; closes = tt }
+  asks_whole = record { earlier = trace; is = followed_none trace; turns = a.turns; asked = a.asked; closes = unspent_here }
 
   pub asks_refused : (from : ℕ) (body : List ℕ) → trace' ≡ followed trace (Received from body ∷ []) → IsUnasked t from body
       → AsksBut r settles es trace' (Refused from body)
@@ -387,17 +439,17 @@ module _ (r : Rules) (settles : Bool) (phase : Phase) (idle : Type 0) (es : List
     is = told;
     turns = a.turns;
     asked = a.asked;
-    closes = subst (λ y. IsUnasked y from body) a.is odd;
+    closes = (subst (λ y. IsUnasked y from body) a.is odd, unspent_here);
   }
 
   pub asks_asking : (others : ℕ) (s : ToldSome (wave_body t.begun) others trace trace') → r.localities ≡ suc others → IsDue settles phase
-      → AsksBut r settles es trace' (Asking t.begun s.some)
-  asks_asking others s members due = record {
+      → t.begun < 4294967295 → AsksBut r settles es trace' (Asking t.begun s.some)
+  asks_asking others s members due more = record {
     earlier = trace;
     is = s.is;
     turns = a.turns;
     asked = a.asked;
-    closes = (subst (IsDue settles) a.far due, ap (λ (y : Tally). y.begun) a.is, omega (arith, s.few, members));
+    closes = (subst (IsDue settles) a.far due, ap (λ (y : Tally). y.begun) a.is, omega (arith, s.few, members), more);
   }
 
   pub asks_ending : (others some : ℕ) → trace' ≡ followed trace (told_all end_body some) → some ≤ others → r.localities ≡ suc others

@@ -9,7 +9,7 @@ use Rattle.hpx_steps.specs.Rest.{rules_of}
 use Rattle.hpx_ports.specs.declared.link.Post.{Post}
 use Rattle.hpx_member.specs.Seats.{IsPart, IsTraced, Meaning, Sits, Tells}
 use Rattle.hpx_member.specs.Stops.{MayLeave, SitsLeft, end_status, status_of}
-use Rattle.hpx_member.specs.declared.stop.MemberFault.TheVariants.{BadFrame, Strange, OutOfPlace}
+use Rattle.hpx_member.specs.declared.stop.MemberFault.TheVariants.{BadFrame, Strange, OutOfPlace, Waves}
 use Rattle.hpx_member.specs.declared.stop.Stop.{Stop}
 use Rattle.hpx_member.specs.declared.stop.Stop.TheVariants.{Link, JournalFull, OutOfMemory, Fault}
 use Rattle.hpx_member.proofs.Turned.{keeps}
@@ -19,16 +19,17 @@ pub tells_none : (r : Rules) (k status : ℕ) (es : List Entry) (tr : List Post)
 tells_none r k status es tr none empty =
     subst (λ xs. Tells r k status xs tr) (sym none)
     (subst (Tells r k status []) (sym empty)
-    (record { sent = refl; rest = []; came = refl; few = omega arith; none = λ a b c. refl; lengths = []; told = refl }))
+    (record { sent = refl; rest = []; came = refl; few = omega arith; none = λ z a b c. refl; lengths = []; told = refl }))
 
--- a frame is left at 6, 7 and 8 alone
-leaves_status : (stop : Stop) → MayLeave stop → status_of stop ≢ 6 → status_of stop ≢ 7 → status_of stop ≢ 8 → ⊥
-leaves_status Link may a b c = may
-leaves_status JournalFull may a b c = may
-leaves_status OutOfMemory may a b c = a refl
-leaves_status (Fault (BadFrame from at why)) may a b c = b refl
-leaves_status (Fault (Strange from rule object kept)) may a b c = c refl
-leaves_status (Fault (OutOfPlace from)) may a b c = c refl
+-- a frame is left at 5, 6, 7 and 8 alone
+leaves_status : (stop : Stop) → MayLeave stop → status_of stop ≢ 5 → status_of stop ≢ 6 → status_of stop ≢ 7 → status_of stop ≢ 8 → ⊥
+leaves_status Link may z a b c = may
+leaves_status JournalFull may z a b c = z refl
+leaves_status OutOfMemory may z a b c = a refl
+leaves_status (Fault (BadFrame from at why)) may z a b c = b refl
+leaves_status (Fault (Strange from rule object kept)) may z a b c = c refl
+leaves_status (Fault (OutOfPlace from)) may z a b c = c refl
+leaves_status (Fault Waves) may z a b c = c refl
 
 module _ (act_of : Meaning) (k n : ℕ) (profile : Profile) (t : Tables) (es : List Entry) (trace : Option (List Post)) (here : t.here ≡ k)
     (localities : t.localities ≡ n) (by : t.profile ≡ profile) where
@@ -41,7 +42,7 @@ module _ (act_of : Meaning) (k n : ℕ) (profile : Profile) (t : Tables) (es : L
       (subst (λ r. IsPart r t.here es) rules_is
       (record { own = sits.seated.own; keeps = keeps act_of t es sits.stands sits.seated.own; within = sits.within }))
 
-  pub tells_left : (rest : List Frame) (status : ℕ) → Sits act_of t es rest trace → length rest ≤ 1 → (status ≢ 6 → status ≢ 7 → status ≢ 8 → rest ≡ [])
+  pub tells_left : (rest : List Frame) (status : ℕ) → Sits act_of t es rest trace → length rest ≤ 1 → (status ≢ 5 → status ≢ 6 → status ≢ 7 → status ≢ 8 → rest ≡ [])
       → (tr : List Post) → trace ≡ Some tr → Tells (rules_of act_of n profile) k status es tr
   tells_left rest status sits few none tr told =
       let x : IsTraced (rules_of act_of t.localities t.profile) t.here (IsPassive t) es rest tr = sits.seated.traced tr told in
@@ -57,7 +58,7 @@ module _ (act_of : Meaning) (k n : ℕ) (profile : Profile) (t : Tables) (es : L
 
   pub tells_ran : (ran : Result (Unit {0}) Stop) → OnOk ran (Sits act_of t es [] trace) → IfErr ran (λ stop. SitsLeft act_of stop t es trace)
       → (tr : List Post) → trace ≡ Some tr → Tells (rules_of act_of n profile) k (end_status ran) es tr
-  tells_ran (Ok x) sits left tr told = tells_left [] 0 sits (omega arith) (λ a b c. refl) tr told
-  tells_ran (Err stop) sits (inl h) tr told = tells_left [] (status_of stop) h (omega arith) (λ a b c. refl) tr told
+  tells_ran (Ok x) sits left tr told = tells_left [] 0 sits (omega arith) (λ z a b c. refl) tr told
+  tells_ran (Err stop) sits (inl h) tr told = tells_left [] (status_of stop) h (omega arith) (λ z a b c. refl) tr told
   tells_ran (Err stop) sits (inr h) tr told =
-      tells_left (h.1.0 ∷ []) (status_of stop) h.1.1 (omega arith) (λ a b c. absurd (leaves_status stop h.0 a b c)) tr told
+      tells_left (h.1.0 ∷ []) (status_of stop) h.1.1 (omega arith) (λ z a b c. absurd (leaves_status stop h.0 z a b c)) tr told

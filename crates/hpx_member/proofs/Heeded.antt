@@ -13,7 +13,7 @@ use Rattle.hpx_member.specs.declared.bodies.Told.{Told}
 use Rattle.hpx_member.specs.Seats.{MaySend}
 use Rattle.hpx_member.specs.Stops.{IsOther, end_status}
 use Rattle.hpx_member.specs.Words.{Heeds, HeedsBut, IsHeeded, IsInPlace, StopsHeeding, wave_got, wave_of, wave_told, waves_got, waves_told}
-use Rattle.hpx_member.specs.declared.stop.MemberFault.TheVariants.{BadFrame, Strange, OutOfPlace}
+use Rattle.hpx_member.specs.declared.stop.MemberFault.TheVariants.{BadFrame, Strange, OutOfPlace, Waves}
 use Rattle.hpx_member.specs.declared.stop.Stop.{Stop}
 use Rattle.hpx_member.specs.declared.stop.Stop.TheVariants.{Link, JournalFull, OutOfMemory, Fault}
 use Rattle.hpx_member.proofs.Grown.{all-append, flat-one, frame_tells}
@@ -87,6 +87,7 @@ heeds_stop OutOfMemory trace o h = h
 heeds_stop (Fault (BadFrame from at why)) trace o h = h
 heeds_stop (Fault (Strange from rule object kept)) trace o h = h
 heeds_stop (Fault (OutOfPlace from)) trace o h = absurd o
+heeds_stop (Fault Waves) trace o h = absurd o
 
 -- ---- what a link that tells shows of it
 
@@ -121,6 +122,7 @@ heeds_stopped (Fault (BadFrame from at why)) trace tr h told = heeds_other 7 tra
 heeds_stopped (Fault (Strange from rule object kept)) trace tr h told = heeds_other 8 trace tr (λ e. omega (arith, e)) h told
 heeds_stopped (Fault (OutOfPlace from)) trace tr h told =
     heeds_but 8 tr (Received from h.0 ∷ []) (omega arith) (λ e. absurd (omega (arith, e))) (λ a b. absurd (b refl)) trace h.1 told
+heeds_stopped (Fault Waves) trace tr h told = absurd h
 
 pub heeds_told : (trace : Option (List Post)) (tr : List Post) → HeedsBut (Received 0 end_body ∷ []) trace → trace ≡ Some tr → Heeds 0 tr
 heeds_told trace tr h told = heeds_but 0 tr (Received 0 end_body ∷ []) (omega arith) (λ e. refl) (λ a b. absurd (a refl)) trace h told

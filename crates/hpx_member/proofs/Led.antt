@@ -1,5 +1,5 @@
 -- What a console keeps over each call.
-use Rattle.std.proofs.Common.{ℕ, zero, suc, Bool, true, false, List, [], ◌∷◌, ◌≡◌, Option, Some, refl, sym, ap, ◌∙◌, subst, inl, inr, arith, length, append-nil}
+use Rattle.std.proofs.Common.{ℕ, zero, suc, Bool, true, false, List, [], ◌∷◌, ◌≡◌, ◌≤◌, ◌<◌, Option, Some, refl, sym, ap, ◌∙◌, subst, inl, inr, arith, length, append-nil}
 use Rattle.std.proofs.Math.Seq.{take-length, drop-length}
 use Rattle.std.proofs.lemmas.Bool.{cases_Bool}
 use Rattle.hpx_journal.specs.Laws.{outs, ins}
@@ -10,7 +10,7 @@ use Rattle.hpx_tables.specs.Tables.{IsPassive, Tables}
 use Rattle.hpx_steps.specs.Limits.{IsWithin}
 use Rattle.hpx_steps.specs.Rest.{Stands, rules_of}
 use Rattle.hpx_node.specs.Changes.{Writes}
-use Rattle.hpx_ended.specs.Tally.{Tally, fresh, opened, verdict_of, waits}
+use Rattle.hpx_ended.specs.Tally.{Tally, IsSpent, fresh, opened, verdict_of, waits}
 use Rattle.hpx_ended.specs.Waves.{BeginsAwake, IsAtRest}
 use Rattle.hpx_ended.specs.declared.round.Verdict.TheVariants.{Again, Ended, Unfinished}
 use Rattle.hpx_ports.specs.Told.{followed}
@@ -19,18 +19,29 @@ use Rattle.hpx_ports.specs.declared.link.Post.TheVariants.{Received}
 use Rattle.hpx_member.specs.Bodies.{end_body, frames_got, frames_sent, heard, is_frame}
 use Rattle.hpx_member.specs.Feeding.{IsIdle}
 use Rattle.hpx_member.specs.Leads.{IsOfLink, IsReady, Leads, LeadsLeft, ToldSome}
-use Rattle.hpx_member.specs.Rounds.{Asks, AsksBut, Ending, IsDue, IsOwnAt, IsUnasked, Asking, MayGoOn, Nothing, Refused, TakesCounts, told_all, wave_body}
+use Rattle.hpx_member.specs.Rounds.{Asks, AsksBut, Ending, IsDue, IsOwnAt, IsUnasked, Asking, MayGoOn, Nothing, Refused, Spent, TakesCounts, told_all, wave_body}
 use Rattle.hpx_member.specs.Seats.{Grows, IsSameSite, IsTraced, MaySend, Meaning, Sits}
 use Rattle.hpx_member.specs.Serves.{IsIdleBehind}
 use Rattle.hpx_member.specs.Stops.{IsOther, MayLeave}
 use Rattle.hpx_member.specs.declared.console.Phase.{Phase}
 use Rattle.hpx_member.specs.declared.console.Phase.TheVariants.{Unfed, Serving, LinesOver}
-use Rattle.hpx_member.specs.declared.stop.MemberFault.TheVariants.{OutOfPlace}
+use Rattle.hpx_member.specs.declared.stop.MemberFault.TheVariants.{OutOfPlace, Waves}
 use Rattle.hpx_member.specs.declared.stop.Stop.{Stop}
 use Rattle.hpx_member.specs.declared.stop.Stop.TheVariants.{Fault}
-use Rattle.hpx_member.proofs.Asked.{asks_anew, asks_asking, asks_began, asks_closed, asks_count, asks_ending, asks_fed, asks_first, asks_grown, asks_heard, asks_refused, asks_sent, asks_took, asks_whole}
+use Rattle.hpx_member.proofs.Asked.{asks_anew, asks_asking, asks_began, asks_closed, asks_count, asks_ending, asks_fed, asks_first, asks_grown, asks_heard, asks_refused, asks_sent, asks_spent, asks_took, asks_whole}
 use Rattle.hpx_member.proofs.Seated.{rules_at, rules_same, sits_fed, sits_left, sits_told, sits_whole}
 use Rattle.hpx_member.proofs.Turned.{rests, sent_is, site_of, taken_is, waits_for}
+
+pub again_done : (t : Tally) → verdict_of t ≡ Again → waits t ≡ false
+again_done t h = elim (cases_Bool (waits t)) [
+  | inl on ↦ absurd (let e : verdict_of t ≡ Unfinished = rw on refl in let odd : Again ≡ Unfinished = sym h ∙ e in cc)
+  | inr off ↦ off
+]
+
+alone : (n : ℕ) → 1 ≤ n → (1 < n → ⊥) → n ≡ 1
+alone zero some few = absurd (omega (arith, some))
+alone (suc zero) some few = refl
+alone (suc (suc n)) some few = absurd (few (omega arith))
 
 module _ (act_of : Meaning) (others : ℕ) (settles : Bool) (phase : Phase) where
   grown : (t t' : Tables) (es es' : List Entry) (trace : Option (List Post)) (waves : Tally) → Asks (rules_at act_of t) settles phase (IsPassive t) es trace waves
@@ -61,12 +72,12 @@ module _ (act_of : Meaning) (others : ℕ) (settles : Bool) (phase : Phase) wher
 
   pub leads_counted : (t : Tables) (es : List Entry) (trace trace' : Option (List Post)) (waves waves' : Tally) (from : ℕ) (body : List ℕ)
       → Leads act_of others settles phase t es trace waves → is_frame body ≡ false → trace' ≡ followed trace (Received from body ∷ [])
-      → Sits act_of t es (heard t.here body) trace' → TakesCounts from body waves waves' → Leads act_of others settles phase t es trace' waves'
-  leads_counted t es trace trace' waves waves' from body l control told sits took = record {
+      → Sits act_of t es (heard t.here body) trace' → TakesCounts from body waves waves' → (IsSpent waves' → ⊥) → Leads act_of others settles phase t es trace' waves'
+  leads_counted t es trace trace' waves waves' from body l control told sits took unspent = record {
     here = l.here;
     members = l.members;
     sits = sits_told act_of t es trace' body sits control;
-    asks = asks_took (rules_at act_of t) settles phase (IsPassive t) es trace trace' from body waves waves' l.asks took told;
+    asks = asks_took (rules_at act_of t) settles phase (IsPassive t) es trace trace' from body waves waves' l.asks took unspent told;
   }
 
   -- nothing has changed
@@ -77,14 +88,17 @@ module _ (act_of : Meaning) (others : ℕ) (settles : Bool) (phase : Phase) wher
       (subst (λ xs. Leads act_of others settles phase t xs trace' waves) (sym entries) (subst (λ tr. Leads act_of others settles phase t es tr waves) (sym traces) l))
 
   pub leads_anew : (t : Tables) (es : List Entry) (trace : Option (List Post)) (waves waves' : Tally) → Leads act_of others settles phase t es trace waves
-      → waits waves ≡ false → waves.begun ≡ 4294967295 → waves' ≡ fresh (length waves.answers) → Leads act_of others settles phase t es trace waves'
-  leads_anew t es trace waves waves' l done last is = record {
-    here = l.here;
-    members = l.members;
-    sits = l.sits;
-    asks = asks_anew (rules_at act_of t) settles phase (IsPassive t) es trace waves waves' l.asks done last
-        (is ∙ ap fresh (asks_count (rules_at act_of t) settles phase (IsPassive t) es trace waves l.asks));
-  }
+      → verdict_of waves ≡ Again → waves.begun ≡ 4294967295 → waves' ≡ fresh (length waves.answers) → Leads act_of others settles phase t es trace waves'
+  leads_anew t es trace waves waves' l again last is =
+      let count : length waves.answers ≡ t.localities = asks_count (rules_at act_of t) settles phase (IsPassive t) es trace waves l.asks in
+      let one : length waves.answers ≡ 1 = alone (length waves.answers) (omega (arith, count, l.members))
+      (λ more. l.asks.unspent (record { others = more; last = last; again = again })) in
+      record {
+        here = l.here;
+        members = l.members;
+        sits = l.sits;
+        asks = asks_anew (rules_at act_of t) settles phase (IsPassive t) es trace waves waves' l.asks (again_done waves again) last one (is ∙ ap fresh count);
+      }
 
   -- the lines are over
   pub leads_closed : (t : Tables) (es : List Entry) (trace : Option (List Post)) (waves waves' : Tally) → Leads act_of others settles phase t es trace waves
@@ -122,15 +136,15 @@ module _ (act_of : Meaning) (others : ℕ) (settles : Bool) (phase : Phase) wher
       )
 
   pub leads_began : (t : Tables) (es : List Entry) (trace trace' : Option (List Post)) (waves waves' : Tally) → Leads act_of others settles phase t es trace waves
-      → IsPassive t → waits waves ≡ false → IsDue settles phase → Sits act_of t es [] trace'
+      → IsPassive t → waits waves ≡ false → IsDue settles phase → waves.begun < 4294967295 → Sits act_of t es [] trace'
       → trace' ≡ followed trace (told_all (wave_body waves.begun) others)
       → waves' ≡ opened (record { sent = t.sent; taken = t.taken }) waves → Leads act_of others settles phase t es trace' waves'
-  leads_began t es trace trace' waves waves' l passive done due sits told is = record {
+  leads_began t es trace trace' waves waves' l passive done due more sits told is = record {
     here = l.here;
     members = l.members;
     sits = sits;
     asks = asks_began (rules_at act_of t) settles phase (IsPassive t) es trace trace' others (record { sent = t.sent; taken = t.taken }) waves waves' l.asks passive
-        l.members done due (own_here t es trace l.here l.sits passive) (frames_here t es trace l.here l.sits) told is;
+        l.members done due more (own_here t es trace l.here l.sits passive) (frames_here t es trace l.here l.sits) told is;
   }
 
   pub leads_fed : (t t' : Tables) (es es' : List Entry) (trace : Option (List Post)) (waves waves' : Tally) (a : Name) (bytes : List ℕ)
@@ -182,13 +196,24 @@ module _ (act_of : Meaning) (others : ℕ) (settles : Bool) (phase : Phase) wher
     closes = refl;
   }
 
+  -- Counts came, and no wave is left
+  pub left_spent : (t : Tables) (es : List Entry) (trace trace' : Option (List Post)) (waves waves' : Tally) (from : ℕ) (body : List ℕ)
+      → Leads act_of others settles phase t es trace waves → is_frame body ≡ false → trace' ≡ followed trace (Received from body ∷ [])
+      → Sits act_of t es (heard t.here body) trace' → TakesCounts from body waves waves' → IsSpent waves' → LeadsLeft act_of settles (Fault Waves) t es trace'
+  left_spent t es trace trace' waves waves' from body l control told sits took spent = record {
+    left = sits_whole act_of (Fault Waves) t es trace' (sits_told act_of t es trace' body sits control);
+    last = Spent;
+    asks = asks_spent (rules_at act_of t) settles phase (IsPassive t) es trace trace' from body waves waves' l.asks took spent told;
+    closes = refl;
+  }
+
   pub left_asking : (stop : Stop) (t : Tables) (es : List Entry) (trace trace' : Option (List Post)) (waves : Tally) → Leads act_of others settles phase t es trace waves
-      → Sits act_of t es [] trace' → ToldSome (wave_body waves.begun) others trace trace' → IsDue settles phase → IsOfLink stop
+      → Sits act_of t es [] trace' → ToldSome (wave_body waves.begun) others trace trace' → IsDue settles phase → waves.begun < 4294967295 → IsOfLink stop
       → LeadsLeft act_of settles stop t es trace'
-  left_asking stop t es trace trace' waves l sits told due link = record {
+  left_asking stop t es trace trace' waves l sits told due more link = record {
     left = sits_whole act_of stop t es trace' sits;
     last = Asking waves.begun told.some;
-    asks = asks_asking (rules_at act_of t) settles phase (IsPassive t) es trace trace' waves l.asks others told l.members due;
+    asks = asks_asking (rules_at act_of t) settles phase (IsPassive t) es trace trace' waves l.asks others told l.members due more;
     closes = link;
   }
 
@@ -214,13 +239,13 @@ module _ (act_of : Meaning) (others : ℕ) (settles : Bool) (phase : Phase) wher
 
   -- a wave was begun, and told to all
   pub leads_told : (t t' : Tables) (es es' : List Entry) (trace trace' : Option (List Post)) (waves waves' : Tally) (number sent taken : ℕ) (body bytes : List ℕ)
-      → Leads act_of others settles phase t es trace waves → IsPassive t → waits waves ≡ false → IsDue settles phase → Sits act_of t' es' [] trace'
+      → Leads act_of others settles phase t es trace waves → IsPassive t → waits waves ≡ false → IsDue settles phase → waves.begun < 4294967295 → Sits act_of t' es' [] trace'
       → t' ≡ t → es' ≡ es
       → trace' ≡ followed trace (told_all bytes others) → bytes ≡ body → body ≡ wave_body number → number ≡ waves.begun → sent ≡ t.sent → taken ≡ t.taken
       → waves' ≡ opened (record { sent = sent; taken = taken }) waves → Leads act_of others settles phase t' es' trace' waves'
-  leads_told t t' es es' trace trace' waves waves' number sent taken body bytes l passive done due sits tables entries told same is number_is sent_is taken_is opens =
+  leads_told t t' es es' trace trace' waves waves' number sent taken body bytes l passive done due more sits tables entries told same is number_is sent_is taken_is opens =
       leads_same t t' es es' trace' trace' waves'
-      (leads_began t es trace trace' waves waves' l passive done due
+      (leads_began t es trace trace' waves waves' l passive done due more
       (subst (λ x. Sits act_of x es [] trace') tables (subst (λ xs. Sits act_of t' xs [] trace') entries sits))
       (subst (λ b. trace' ≡ followed trace (told_all b others)) (same ∙ (is ∙ ap wave_body number_is)) told)
       (subst (λ a. waves' ≡ opened (record { sent = a; taken = t.taken }) waves) sent_is
@@ -230,10 +255,11 @@ module _ (act_of : Meaning) (others : ℕ) (settles : Bool) (phase : Phase) wher
   -- or to some
   pub left_told : (stop : Stop) (t t' : Tables) (es es' : List Entry) (trace trace' : Option (List Post)) (waves : Tally) (number : ℕ) (body bytes : List ℕ)
       → Leads act_of others settles phase t es trace waves → Sits act_of t' es' [] trace' → t' ≡ t → es' ≡ es → ToldSome bytes others trace trace'
-      → bytes ≡ body → body ≡ wave_body number → number ≡ waves.begun → IsDue settles phase → IsOfLink stop → LeadsLeft act_of settles stop t' es' trace'
-  left_told stop t t' es es' trace trace' waves number body bytes l sits tables entries told same is number_is due link =
+      → bytes ≡ body → body ≡ wave_body number → number ≡ waves.begun → IsDue settles phase → waves.begun < 4294967295 → IsOfLink stop
+      → LeadsLeft act_of settles stop t' es' trace'
+  left_told stop t t' es es' trace trace' waves number body bytes l sits tables entries told same is number_is due more link =
       left_asking stop t' es' trace trace' waves (leads_same t t' es es' trace trace waves l tables entries refl) sits
-      (subst (λ b. ToldSome b others trace trace') (same ∙ (is ∙ ap wave_body number_is)) told) due link
+      (subst (λ b. ToldSome b others trace trace') (same ∙ (is ∙ ap wave_body number_is)) told) due more link
 
   -- the end was told to all
   pub but_ended : (t t' : Tables) (es es' : List Entry) (trace trace' : Option (List Post)) (waves : Tally) → Leads act_of others settles phase t es trace waves
@@ -297,12 +323,6 @@ leads_first act_of others settles t es trace waves here members sits none empty 
 pub waits_fresh : (n : ℕ) → waits (fresh n) ≡ false
 waits_fresh zero = refl
 waits_fresh (suc n) = waits_fresh n
-
-pub again_done : (t : Tally) → verdict_of t ≡ Again → waits t ≡ false
-again_done t h = elim (cases_Bool (waits t)) [
-  | inl on ↦ absurd (let e : verdict_of t ≡ Unfinished = rw on refl in let odd : Again ≡ Unfinished = sym h ∙ e in cc)
-  | inr off ↦ off
-]
 
 pub ended_done : (t : Tally) → verdict_of t ≡ Ended → waits t ≡ false
 ended_done t h = elim (cases_Bool (waits t)) [

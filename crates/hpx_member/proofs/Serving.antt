@@ -5,6 +5,12 @@ use Rattle.hpx_journal.specs.Entries.{Rules}
 use Rattle.hpx_part.specs.Data.{Entry}
 use Rattle.hpx_part.specs.Parts.{at_boot}
 use Rattle.hpx_tables.specs.Tables.{Tables}
+use Rattle.hpx_ports.specs.declared.link.Latest.{Latest}
+use Rattle.hpx_member.specs.Leads.{HasLineToFeed, IsDueAt, IsGiven, IsNoFrame}
+use Rattle.hpx_member.specs.Stops.{IsCauseBy}
+use Rattle.hpx_member.specs.declared.stop.Halt.TheVariants.{Member}
+use Rattle.hpx_member.specs.declared.stop.Stop.{Stop}
+use Rattle.hpx_member.specs.declared.stop.Stop.TheVariants.{Link, JournalFull, OutOfMemory, Fault}
 use Rattle.hpx_member.specs.Seats.{IsSameSite, Meaning}
 use Rattle.hpx_member.specs.Feeding.{AddsNoLine, FeedsAtMost, FeedsIdle, FeedsLine}
 use Rattle.hpx_member.specs.Serves.{Asking, Block, Closing, Done, Feeding, Given, IsBlock, IsIdleBehind, IsOver, Serves, Stage, entries_in, talk_by, talk_in}
@@ -166,6 +172,26 @@ serves_first r es Said none first idle = record {
   talk = first;
 }
 
+-- ---- a turn that was due
+
+-- a line was handed out that is not fed
+pub line_to_feed : (r : Rules) (es : List Entry) (Went : List Talk → Type 0) (stage : Stage) → Serves r es (Only Went) stage → IsGiven stage
+    → HasLineToFeed r es Went
+line_to_feed r es Went Asking s never = absurd never
+line_to_feed r es Went (Given line) s given = (line, s)
+line_to_feed r es Went (Feeding line) s never = absurd never
+line_to_feed r es Went Closing s never = absurd never
+line_to_feed r es Went Done s never = absurd never
+
+-- a turn of the node was due
+due_stop : (t : Tables) (es : List Entry) (latest : Latest) (before after : ℕ) (stop : Stop) (stage : Stage) → IsCauseBy IsNoFrame ⊥ t es latest before after stop
+    → IsDueAt (Member stop) stage t latest
+due_stop t es latest before after Link stage why = tt
+due_stop t es latest before after OutOfMemory stage why = tt
+due_stop t es latest before after (Fault fault) stage why = tt
+due_stop t es latest before after JournalFull stage (full, calm, inl turn) = inl turn
+due_stop t es latest before after JournalFull stage (full, calm, inr never) = absurd never
+
 -- ---- a line, by what became of it
 
 module _ (act_of : Meaning) (t t' : Tables) (es es' : List Entry) (W W1 : List Talk → Type 0) (line : List ℕ) (site : IsSameSite t t')
@@ -174,19 +200,34 @@ module _ (act_of : Meaning) (t t' : Tables) (es es' : List Entry) (W W1 : List T
   said_handed = handed (talk_in s.blocks) (said_here (rules_at act_of t) es W s)
 
   -- it may have been fed
-  pub line_most : FeedsAtMost line es es' → (stage : Stage) × Serves (rules_at act_of t') es' (Only W1) stage
-  line_most f =
+  line_fed : FeedsAtMost line es es' → (stage : Stage) × Serves (rules_at act_of t') es' (Only W1) stage
+  line_fed f =
       subst (λ r. (stage : Stage) × Serves r es' (Only W1) stage) (sym (rules_same act_of t t' site))
       (serves_most (rules_at act_of t) es W s W1 es' line f said_handed)
 
+  line_unfed : es' ≡ es → Serves (rules_at act_of t') es' (Only W1) (Given line)
+  line_unfed same =
+      subst (λ r. Serves r es' (Only W1) (Given line)) (sym (rules_same act_of t t' site))
+      (subst (λ xs. Serves (rules_at act_of t) xs (Only W1) (Given line)) (sym same) (serves_handed (rules_at act_of t) es W s (Only W1) line said_handed))
+
+  -- and then it stops
+  pub line_most : (latest : Latest) (before after : ℕ) (stop : Stop) → IsCauseBy IsNoFrame (es' ≡ es) t' es' latest before after stop → FeedsAtMost line es es'
+      → (stage : Stage) × Serves (rules_at act_of t') es' (Only W1) stage × IsDueAt (Member stop) stage t' latest
+  line_most latest before after Link why f = let fed = line_fed f in (fed.0, fed.1, tt)
+  line_most latest before after OutOfMemory why f = let fed = line_fed f in (fed.0, fed.1, tt)
+  line_most latest before after (Fault fault) why f = let fed = line_fed f in (fed.0, fed.1, tt)
+  line_most latest before after JournalFull (full, calm, inl turn) f = let fed = line_fed f in (fed.0, fed.1, inl turn)
+  line_most latest before after JournalFull (full, calm, inr same) f = (Given line, line_unfed same, inr tt)
+
   -- what was written is not shown
   pub line_unshown : (B : List Talk → List Talk → Type 0) (cut : ℕ) → cut ≡ length es → FeedsLine line es es'
-      → ((talk : List Talk) → W1 talk → B talk (Shown (drop cut es') ∷ [])) → (stage : Stage) × Serves (rules_at act_of t') es' B stage
+      → ((talk : List Talk) → W1 talk → B talk (Shown (drop cut es') ∷ [])) → (stage : Stage) × Serves (rules_at act_of t') es' B stage × Unit {0}
   line_unshown B cut is f broke =
-      subst (λ r. (stage : Stage) × Serves r es' B stage) (sym (rules_same act_of t t' site)) (
+      subst (λ r. (stage : Stage) × Serves r es' B stage × Unit {0}) (sym (rules_same act_of t t' site)) (
         Feeding line,
         serves_fed (rules_at act_of t) es W s B es' line f
             (subst (λ n. B (talk_in s.blocks ++ Handed line ∷ []) (Shown (drop n es') ∷ [])) is (broke (talk_in s.blocks ++ Handed line ∷ []) said_handed)),
+        tt,
       )
 
   -- it is
@@ -203,26 +244,30 @@ pub line_over : (r : Rules) (es : List Entry) (W W1 : List Talk → Type 0) → 
 line_over r es W W1 s over = serves_over r es W s W1 (over (talk_in s.blocks) (said_here r es W s))
 
 pub line_unread : (r : Rules) (es : List Entry) (W : List Talk → Type 0) (B : List Talk → List Talk → Type 0) → Serves r es (Only W) Asking
-    → ((talk : List Talk) → W talk → B talk []) → (stage : Stage) × Serves r es B stage
-line_unread r es W B s broke = (Asking, serves_stopped r es W s B (λ w. broke (talk_in s.blocks) w))
+    → ((talk : List Talk) → W talk → B talk []) → (stage : Stage) × Serves r es B stage × Unit {0}
+line_unread r es W B s broke = (Asking, serves_stopped r es W s B (λ w. broke (talk_in s.blocks) w), tt)
 
 -- ---- the last entries
 
 module _ (act_of : Meaning) (t t' : Tables) (es es' : List Entry) (W : List Talk → Type 0) (site : IsSameSite t t')
     (s : IsOver (rules_at act_of t) es W) (a : AddsNoLine es es') where
   pub last_unshown : (B : List Talk → List Talk → Type 0) (cut : ℕ) → cut ≡ length es → ((talk : List Talk) → W talk → B talk (Shown (drop cut es') ∷ []))
-      → (stage : Stage) × Serves (rules_at act_of t') es' B stage
+      → (stage : Stage) × Serves (rules_at act_of t') es' B stage × Unit {0}
   last_unshown B cut is broke =
-      subst (λ r. (stage : Stage) × Serves r es' B stage) (sym (rules_same act_of t t' site)) (
+      subst (λ r. (stage : Stage) × Serves r es' B stage × Unit {0}) (sym (rules_same act_of t t' site)) (
         Closing,
         serves_closing (rules_at act_of t) es es' W s a B
             (subst (λ n. B (talk_in s.blocks ++ Over ∷ []) (Shown (drop n es') ∷ [])) is (broke (talk_in s.blocks ++ Over ∷ []) s.talk)),
+        tt,
       )
 
-  pub last_stopped : (stage : Stage) × Serves (rules_at act_of t') es' (Only W) stage
-  last_stopped =
-      subst (λ r. (stage : Stage) × Serves r es' (Only W) stage) (sym (rules_same act_of t t' site))
-      (Closing, serves_closing (rules_at act_of t) es es' W s a (Only W) s.talk)
+  last_closing : Serves (rules_at act_of t') es' (Only W) Closing
+  last_closing =
+      subst (λ r. Serves r es' (Only W) Closing) (sym (rules_same act_of t t' site)) (serves_closing (rules_at act_of t) es es' W s a (Only W) s.talk)
+
+  pub last_stopped : (latest : Latest) (before after : ℕ) (stop : Stop) → IsCauseBy IsNoFrame ⊥ t' es' latest before after stop
+      → (stage : Stage) × Serves (rules_at act_of t') es' (Only W) stage × IsDueAt (Member stop) stage t' latest
+  last_stopped latest before after stop why = (Closing, last_closing, due_stop t' es' latest before after stop Closing why)
 
   pub last_shown : (W1 : List Talk → Type 0) (cut : ℕ) → cut ≡ length es → ((talk : List Talk) → W talk → W1 (talk ++ Shown (drop cut es') ∷ []))
       → Serves (rules_at act_of t') es' (Only W1) Done
@@ -232,7 +277,11 @@ module _ (act_of : Meaning) (t t' : Tables) (es es' : List Entry) (W : List Talk
       (subst (λ n. W1 ((talk_in s.blocks ++ Over ∷ []) ++ Shown (drop n es') ∷ [])) is (shown (talk_in s.blocks ++ Over ∷ []) s.talk)))
 
 -- nothing was written since
-pub serves_stays : (act_of : Meaning) (t t' : Tables) (es es' : List Entry) (S : List Talk → List Talk → Type 0) (stage : Stage) → t' ≡ t → es' ≡ es
-    → Serves (rules_at act_of t) es S stage → (stage : Stage) × Serves (rules_at act_of t') es' S stage
-serves_stays act_of t t' es es' S stage tables entries s =
-    (stage, subst (λ x. Serves (rules_at act_of x) es' S stage) (sym tables) (subst (λ xs. Serves (rules_at act_of t) xs S stage) (sym entries) s))
+pub serves_stays : (act_of : Meaning) (t t' : Tables) (es es' : List Entry) (S : List Talk → List Talk → Type 0) (stage : Stage) (latest : Latest)
+    (before after : ℕ) (stop : Stop) → t' ≡ t → es' ≡ es → Serves (rules_at act_of t) es S stage → IsCauseBy IsNoFrame ⊥ t' es' latest before after stop
+    → (stage : Stage) × Serves (rules_at act_of t') es' S stage × IsDueAt (Member stop) stage t' latest
+serves_stays act_of t t' es es' S stage latest before after stop tables entries s why = (
+  stage,
+  subst (λ x. Serves (rules_at act_of x) es' S stage) (sym tables) (subst (λ xs. Serves (rules_at act_of t) xs S stage) (sym entries) s),
+  due_stop t' es' latest before after stop stage why,
+)

@@ -10,10 +10,10 @@ use Rattle.hpx_ports.specs.Faults.{Rose}
 use Rattle.hpx_ports.specs.Told.{followed}
 use Rattle.hpx_ports.specs.declared.link.Latest.{Latest}
 use Rattle.hpx_ports.specs.declared.link.Post.{Post}
-use Rattle.hpx_member.specs.Rounds.{Asks, AsksBut, Last, Nothing, Asking, Ending, Refused, told_all}
+use Rattle.hpx_member.specs.Rounds.{Asks, AsksBut, Last, Nothing, Asking, Ending, Refused, Spent, told_all}
 use Rattle.hpx_member.specs.Seats.{Meaning, Sits}
-use Rattle.hpx_member.specs.Serves.{Done, Serves, Stage}
-use Rattle.hpx_member.specs.Stops.{IsCauseBy, IsOther, SitsLeft, fault_of, status_of}
+use Rattle.hpx_member.specs.Serves.{Done, Given, Serves, Stage}
+use Rattle.hpx_member.specs.Stops.{IsCauseBy, IsOther, IsTurnDue, SitsLeft, fault_of, status_of}
 use Rattle.hpx_member.specs.Bodies.{is_frame}
 use Rattle.hpx_member.specs.Talks.{IsLineCause, Only, Talk}
 use Rattle.hpx_member.specs.declared.console.Phase.{Phase}
@@ -22,9 +22,9 @@ use Rattle.hpx_member.specs.declared.lines.LineFault.TheVariants as line_faults
 use Rattle.hpx_member.specs.declared.stop.Halt.{Halt}
 use Rattle.hpx_member.specs.declared.stop.Halt.TheVariants.{Lines, Member}
 use Rattle.hpx_member.specs.declared.stop.MemberFault.{MemberFault}
-use Rattle.hpx_member.specs.declared.stop.MemberFault.TheVariants.{OutOfPlace}
+use Rattle.hpx_member.specs.declared.stop.MemberFault.TheVariants.{OutOfPlace, Waves}
 use Rattle.hpx_member.specs.declared.stop.Stop.{Stop}
-use Rattle.hpx_member.specs.declared.stop.Stop.TheVariants.{Link, OutOfMemory, Fault}
+use Rattle.hpx_member.specs.declared.stop.Stop.TheVariants.{Link, JournalFull, OutOfMemory, Fault}
 
 -- ---- between calls
 
@@ -52,12 +52,13 @@ pub record ToldSome (body : List ℕ) (others : ℕ) (trace trace' : Option (Lis
 abbrev pub IsOfLink : Stop → Type 0
 IsOfLink stop = (stop ≡ Link) ⊎ (stop ≡ OutOfMemory)
 
--- what may have come behind the last turn where it stops: a word that is not taken stops it, and a word that could not be sent
+-- what may have come behind the last turn where it stops: a word that is not taken stops it, and a word that could not be sent, and waves that are spent
 abbrev pub MayClose : Stop → Last → Type 0
 MayClose stop Nothing = IsOther stop
 MayClose stop (Asking wave some) = IsOfLink stop
 MayClose stop (Ending some) = IsOfLink stop
 MayClose stop (Refused from body) = stop ≡ Fault (OutOfPlace from)
+MayClose stop Spent = stop ≡ Fault Waves
 
 -- a console that stops: at most one frame is left that was not accepted
 pub record LeadsLeft (act_of : Meaning) (settles : Bool) (stop : Stop) (t : Tables) (es : List Entry) (trace : Option (List Post)) : Type 0 where
@@ -75,7 +76,20 @@ abbrev pub IsHaltCause : Tables → List Entry → Latest → (reads reads' writ
 IsHaltCause t es latest reads reads' writes writes' full before after (Lines fault) =
     IsLineCause reads reads' writes writes' full fault × (after ≡ before)
 IsHaltCause t es latest reads reads' writes writes' full before after (Member stop) =
-    IsCauseBy IsNoFrame t es latest before after stop × (reads' ≡ reads) × (writes' ≡ writes)
+    IsCauseBy IsNoFrame (Unit {0}) t es latest before after stop × (reads' ≡ reads) × (writes' ≡ writes)
+
+-- a line was handed out that is not fed
+abbrev pub IsGiven : Stage → Type 0
+IsGiven (Given line) = Unit {0}
+IsGiven _ = ⊥
+
+-- where it halts since there is no room, a turn was due: of the node, or to feed a line
+abbrev pub IsDueAt : Halt → Stage → Tables → Latest → Type 0
+IsDueAt (Lines fault) stage t latest = Unit {0}
+IsDueAt (Member Link) stage t latest = Unit {0}
+IsDueAt (Member JournalFull) stage t latest = IsTurnDue t latest ⊎ IsGiven stage
+IsDueAt (Member OutOfMemory) stage t latest = Unit {0}
+IsDueAt (Member (Fault fault)) stage t latest = Unit {0}
 
 -- what it leaves then
 abbrev pub HaltsLeft : Meaning → Bool → Halt → Tables → List Entry → Option (List Post) → Type 0
@@ -120,12 +134,13 @@ halted_fault (Err halt) = halt_fault halt
 
 -- ---- what it leaves
 
--- what came behind the last turn, by status and fault: at status 0 the end, told to each of n members but member 0
+-- what came behind the last turn, by status and fault: at status 0 the end, told to each of n members but member 0; waves are spent at that fault alone
 abbrev pub Ends : ℕ → ℕ → Option MemberFault → Last → Type 0
-Ends n status fault Nothing = status ≢ 0
+Ends n status fault Nothing = (status ≢ 0) × (fault ≢ Some Waves)
 Ends n status fault (Asking wave some) = (status ≡ 4) ⊎ (status ≡ 6)
 Ends n status fault (Ending some) = ((status ≡ 0) × (n ≡ suc some)) ⊎ ((status ≡ 4) ⊎ (status ≡ 6))
 Ends n status fault (Refused from body) = (status ≡ 8) × (fault ≡ Some (OutOfPlace from))
+Ends n status fault Spent = (status ≡ 8) × (fault ≡ Some Waves)
 
 -- What a console has asked of the others. Its turns are in order, its own numbers are those of its journal, and the words on its link, where that
 -- tells, are those of its turns. The end is told only behind a round that was begun once the lines were over and has ended, and at status 0 to all.
@@ -139,6 +154,10 @@ pub record HasServed (r : Rules) (status : ℕ) (es : List Entry) (Went : List T
   pub stage : Stage
   pub serves : Serves r es (Only Went) stage ⊎ ((fault : LineFault) × (status ≡ status_of_lines fault) × Serves r es (Broke fault) stage)
   pub done : status ≡ 0 → stage ≡ Done
+
+-- a line was handed out that is not fed, as it has served its lines
+abbrev pub HasLineToFeed : Rules → List Entry → (List Talk → Type 0) → Type 0
+HasLineToFeed r es Went = (line : List ℕ) × Serves r es (Only Went) (Given line)
 
 -- 2 and 3 only where the count of that fault rose, and it rose at no other status; 9 only where no more may be read
 pub record HasLineCause (status reads reads' writes writes' : ℕ) (full : Bool) : Type 0 where

@@ -7,7 +7,7 @@ use Rattle.hpx_journal.specs.Laws.{outs, ins}
 use Rattle.hpx_journal.specs.Whole.{IsClean}
 use Rattle.hpx_part.specs.Data.{Event, Entry, Line}
 use Rattle.hpx_part.specs.Parts.{at_boot}
-use Rattle.hpx_ended.specs.Tally.{Tally, MayCount, counted, fresh, opened, verdict_of, waits}
+use Rattle.hpx_ended.specs.Tally.{Tally, IsSpent, MayCount, counted, fresh, opened, verdict_of, waits}
 use Rattle.hpx_ended.specs.Waves.{MayAnswer}
 use Rattle.hpx_ended.specs.declared.round.Counted.{Counted}
 use Rattle.hpx_ended.specs.declared.round.Verdict.TheVariants.{Ended}
@@ -46,7 +46,7 @@ words tr = flat_map word_by tr
 -- ---- what a console does
 
 -- A line was fed, behind so many entries. A wave was begun with these numbers of the console's own, behind so many posts and entries. A body of Counts
--- was taken from a member. The round began anew. Or it did so as the lines were over.
+-- was taken from a member. The round of a console alone began anew. Or it did so as the lines were over.
 pub data Turn : Type 0 where
   Fed : (entries : ℕ) → Turn
   Began : (posts entries : ℕ) (numbers : Counted) → Turn
@@ -82,13 +82,13 @@ MayGoOn settles t Unfed = waits t ≡ false
 MayGoOn settles t Serving = (waits t ≡ false) × (settles ≡ true → verdict_of t ≡ Ended)
 MayGoOn settles t LinesOver = ⊥
 
--- a turn may come where the waves of earlier turns stand so: a wave where one is due and no answer is missing, Counts in answer to the wave that waits,
--- and Anew where no wave has a number any more
+-- a turn may come where the waves of earlier turns stand so: a wave where one is due, no answer is missing and it has a number, Counts in answer to the
+-- wave that waits, and Anew where no wave has a number any more, of a console that is alone
 abbrev pub MayFollow : Bool → Tally → List Turn → Turn → Type 0
 MayFollow settles t earlier (Fed e) = MayGoOn settles t (phase_of earlier)
-MayFollow settles t earlier (Began p e x) = (waits t ≡ false) × IsDue settles (phase_of earlier)
+MayFollow settles t earlier (Began p e x) = (waits t ≡ false) × IsDue settles (phase_of earlier) × (t.begun < 4294967295)
 MayFollow settles t earlier (Took from body c) = (counts_of body ≡ Some c) × MayCount t from c.wave
-MayFollow settles t earlier Anew = (waits t ≡ false) × (t.begun ≡ 4294967295)
+MayFollow settles t earlier Anew = (waits t ≡ false) × (t.begun ≡ 4294967295) × (length t.answers ≡ 1)
 MayFollow settles t earlier Closed = MayGoOn settles t (phase_of earlier)
 
 -- all did
@@ -200,28 +200,32 @@ IsStillBehind (Took from body c ∷ earlier) n idle = IsStillBehind earlier n id
 IsStillBehind (Anew ∷ earlier) n idle = IsStillBehind earlier n idle
 IsStillBehind (Closed ∷ earlier) n idle = IsStillBehind earlier n idle
 
--- a console had such turns, its lines are so far, and its waves stand so
+-- a console had such turns, its lines are so far, and its waves stand so: they are not spent
 pub record Asks (r : Rules) (settles : Bool) (phase : Phase) (idle : Type 0) (es : List Entry) (trace : Option (List Post)) (t : Tally) : Type 0 where
   pub turns : List Turn
   pub asked : IsAsked r settles es trace turns
   pub still : IsStillBehind turns (length es) idle
   pub far : phase ≡ phase_of turns
   pub is : t ≡ tally_of r.localities turns
+  pub unspent : IsSpent t → ⊥
 
 -- ---- where it ends
 
--- what came behind the last turn: nothing; a wave or the end that was told to members 1 to so many; or a word that is not taken
+-- what came behind the last turn: nothing; a wave or the end that was told to members 1 to so many; a word that is not taken; or nothing may come, since
+-- the waves are spent
 pub data Last : Type 0 where
   Nothing : Last
   Asking : (wave some : ℕ) → Last
   Ending : (some : ℕ) → Last
   Refused : (from : ℕ) (body : List ℕ) → Last
+  Spent : Last
 
 abbrev pub posts_in : Last → List Post
 posts_in Nothing = []
 posts_in (Asking wave some) = told_all (wave_body wave) some
 posts_in (Ending some) = told_all end_body some
 posts_in (Refused from body) = Received from body ∷ []
+posts_in Spent = []
 
 -- no wave waits for this word: it is no frame, and tells no numbers, or those of another wave, or of a member whose answer is not missing
 pub record IsUnasked (t : Tally) (from : ℕ) (body : List ℕ) : Type 0 where
@@ -235,12 +239,14 @@ pub record TakesCounts (from : ℕ) (body : List ℕ) (t t' : Tally) : Type 0 wh
   pub may : MayCount t from told.wave
   pub is : t' ≡ counted from (record { sent = told.sent; taken = told.taken }) t
 
--- it comes behind these turns: a wave only where one is due; the end only where the lines are over, and the round that began then has ended
+-- it comes behind these turns: a wave only where one is due; the end only where the lines are over, and the round that began then has ended; and nothing
+-- but this where the waves are spent
 abbrev pub Closes : ℕ → Bool → List Turn → Last → Type 0
-Closes n settles turns Nothing = Unit {0}
-Closes n settles turns (Asking wave some) = IsDue settles (phase_of turns) × (wave ≡ (tally_of n turns).begun) × (some < n)
+Closes n settles turns Nothing = IsSpent (tally_of n turns) → ⊥
+Closes n settles turns (Asking wave some) = IsDue settles (phase_of turns) × (wave ≡ (tally_of n turns).begun) × (some < n) × (wave < 4294967295)
 Closes n settles turns (Ending some) = (phase_of turns ≡ LinesOver) × (verdict_of (tally_of n turns) ≡ Ended) × (some < n)
-Closes n settles turns (Refused from body) = IsUnasked (tally_of n turns) from body
+Closes n settles turns (Refused from body) = IsUnasked (tally_of n turns) from body × (IsSpent (tally_of n turns) → ⊥)
+Closes n settles turns Spent = IsSpent (tally_of n turns)
 
 -- turns of a console, and what came behind them
 pub record AsksBut (r : Rules) (settles : Bool) (es : List Entry) (trace : Option (List Post)) (last : Last) : Type 0 where

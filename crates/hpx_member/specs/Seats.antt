@@ -141,12 +141,12 @@ pub record IsNodeAt (act_of : Meaning) (k n : ℕ) (by : Profile) (t : Tables) (
   pub stands : Stands act_of t es
 
 -- what a link tells of a member that ended with this status: the frames sent are those of its journal, those that came are those of its journal and
--- at most one more, at status 6, 7 or 8 alone; and all numbers that it told were its own
+-- at most one more, at status 5, 6, 7 or 8 alone; and all numbers that it told were its own
 pub record Tells (r : Rules) (k status : ℕ) (es : List Entry) (tr : List Post) : Type 0 where
   pub sent : frames_sent k tr ≡ outs es
   pub rest : List Frame
   pub came : frames_got k tr ≡ ins es ++ rest
   pub few : length rest ≤ 1
-  pub none : status ≢ 6 → status ≢ 7 → status ≢ 8 → rest ≡ []
+  pub none : status ≢ 5 → status ≢ 6 → status ≢ 7 → status ≢ 8 → rest ≡ []
   pub lengths : List ℕ
   pub told : AreTold r k es (reverse tr) lengths

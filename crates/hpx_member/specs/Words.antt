@@ -7,7 +7,7 @@ use Rattle.hpx_ports.specs.Told.{followed}
 use Rattle.hpx_ports.specs.declared.link.Post.{Post}
 use Rattle.hpx_ports.specs.declared.link.Post.TheVariants.{Sent, Received}
 use Rattle.hpx_member.specs.Bodies.{end_body, is_frame, is_wave, told_by}
-use Rattle.hpx_member.specs.declared.stop.MemberFault.TheVariants.{BadFrame, Strange, OutOfPlace}
+use Rattle.hpx_member.specs.declared.stop.MemberFault.TheVariants.{BadFrame, Strange, OutOfPlace, Waves}
 use Rattle.hpx_member.specs.declared.stop.Stop.{Stop}
 use Rattle.hpx_member.specs.declared.stop.Stop.TheVariants.{Link, JournalFull, OutOfMemory, Fault}
 
@@ -55,6 +55,7 @@ StopsHeeding OutOfMemory trace = HeedsBut [] trace
 StopsHeeding (Fault (BadFrame from at why)) trace = HeedsBut [] trace
 StopsHeeding (Fault (Strange from rule object kept)) trace = HeedsBut [] trace
 StopsHeeding (Fault (OutOfPlace from)) trace = (body : List ℕ) × HeedsBut (Received from body ∷ []) trace
+StopsHeeding (Fault Waves) trace = ⊥
 
 -- what a link tells of a worker that ended with this status: no word came but waves of the console, which it answered in order, each once; the
 -- word that ended it, if one did, came last: it is End at status 0, and there is another only at status 8

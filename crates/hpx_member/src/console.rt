@@ -5,17 +5,17 @@ ghost use Rattle.hpx_journal.specs.Weights.{HasRoom};
 ghost use Rattle.hpx_tables.specs.Tables.{IsPassive};
 ghost use Rattle.hpx_steps.specs.Rest.{rules_of};
 ghost use Rattle.hpx_ended.specs.Tally.{verdict_of, waits};
-ghost use Rattle.hpx_ended.specs.declared.round.Verdict.TheVariants.{Ended};
+ghost use Rattle.hpx_ended.specs.declared.round.Verdict.TheVariants.{Again, Ended};
 ghost use Rattle.hpx_ports.specs.Faults.{Rose};
 ghost use Rattle.hpx_ports.specs.declared.link.Post.{Post};
 ghost use Rattle.hpx_member.specs.Bodies.{is_frame};
 ghost use Rattle.hpx_member.specs.Feeding.{AddsNoLine, FeedsAtMost, FeedsLine};
-ghost use Rattle.hpx_member.specs.Leads.{HaltsLeft, HasAsked, HasLineCause, HasServed, IsConsolesStatus, IsHaltCause, IsNoFrame, IsReady, Leads, LeadsLeft, Saying};
+ghost use Rattle.hpx_member.specs.Leads.{HaltsLeft, HasAsked, HasLineCause, HasLineToFeed, HasServed, IsConsolesStatus, IsDueAt, IsHaltCause, IsNoFrame, IsReady, Leads, LeadsLeft, Saying};
 ghost use Rattle.hpx_member.specs.Rounds.{Ending, AsksBut, IsDue, IsUnasked, MayGoOn, TakesCounts};
 ghost use Rattle.hpx_member.specs.declared.console.Phase.TheVariants.{LinesOver, Serving};
 ghost use Rattle.hpx_member.specs.Seats.{IsNodeAt, IsPart, IsSameSite, Sits, Tells};
 ghost use Rattle.hpx_member.specs.Serves.{Asking, Done, IsIdleBehind, IsOver, Serves, Stage};
-ghost use Rattle.hpx_member.specs.Stops.{IsCauseBy, IsFaultBy, status_of_fault};
+ghost use Rattle.hpx_member.specs.Stops.{IsCauseBy, IsFaultBy, IsTurnDue, status_of_fault};
 ghost use Rattle.hpx_member.specs.Talks.{Only};
 
 use crate::bodies::{END, is_frame, read_counts, wave};
@@ -72,9 +72,8 @@ struct ConsoleSeat<A: Acts + Copy, L: Link + Drop> {
 }
 
 impl<A: Acts + Copy, L: Link + Drop> ConsoleSeat<A, L> {
-    /// Waits for a body: a frame is accepted, and Counts are counted.
+    /// Waits for a body: a frame is accepted, and Counts are counted, which may leave no wave.
     fn hear(&mut self, alloc: Global) -> Result<(), Stop>
-        requires room { HasRoom self.old.seat.book.entries }
         requires leads { Leads A.act_of self.old.others self.old.settles self.old.phase self.old.seat.node.tables self.old.seat.book.entries (L.trace self.old.seat.link) self.old.waves }
         ensures leads { OnOk result (Leads A.act_of self.new.others self.new.settles self.new.phase self.new.seat.node.tables self.new.seat.book.entries (L.trace self.new.seat.link) self.new.waves) }
         ensures left { IfErr result (λ stop. LeadsLeft A.act_of self.new.settles stop self.new.seat.node.tables self.new.seat.book.entries (L.trace self.new.seat.link)) }
@@ -83,7 +82,7 @@ impl<A: Acts + Copy, L: Link + Drop> ConsoleSeat<A, L> {
         ensures unfed { AddsNoLine self.old.seat.book.entries self.new.seat.book.entries }
         ensures waves { waits self.old.waves ≡ false → OnOk result (self.new.waves ≡ self.old.waves) }
         ensures calm { OnOk result (L.faults self.new.seat.link ≡ L.faults self.old.seat.link) }
-        ensures stops { IfErr result (IsCauseBy IsNoFrame self.new.seat.node.tables self.new.seat.book.entries (L.latest self.new.seat.link) (L.faults self.old.seat.link) (L.faults self.new.seat.link)) }
+        ensures stops { IfErr result (IsCauseBy IsNoFrame ⊥ self.new.seat.node.tables self.new.seat.book.entries (L.latest self.new.seat.link) (L.faults self.old.seat.link) (L.faults self.new.seat.link)) }
     {
         let (from, body) = self.seat.listen()?;
         if is_frame(body.as_slice()) {
@@ -92,11 +91,13 @@ impl<A: Acts + Copy, L: Link + Drop> ConsoleSeat<A, L> {
                 Err(stop) => return Err(stop),
             }
         }
-        if count(&mut self.waves, from, body.as_slice()) {
-            Ok(())
-        } else {
-            Err(Stop::Fault(MemberFault::OutOfPlace { from }))
+        if !count(&mut self.waves, from, body.as_slice()) {
+            return Err(Stop::Fault(MemberFault::OutOfPlace { from }));
         }
+        if self.waves.is_spent() {
+            return Err(Stop::Fault(MemberFault::Waves));
+        }
+        Ok(())
     }
 
     /// One step of its own, or else it waits for a body. True where nothing is to be done, and no answer is awaited.
@@ -104,14 +105,13 @@ impl<A: Acts + Copy, L: Link + Drop> ConsoleSeat<A, L> {
         requires leads { Leads A.act_of self.old.others self.old.settles self.old.phase self.old.seat.node.tables self.old.seat.book.entries (L.trace self.old.seat.link) self.old.waves }
         ensures leads { OnOk result (Leads A.act_of self.new.others self.new.settles self.new.phase self.new.seat.node.tables self.new.seat.book.entries (L.trace self.new.seat.link) self.new.waves) }
         ensures ready { result ≡ Ok true → IsReady self.new.seat.node.tables }
-        ensures room { result ≡ Ok true → HasRoom self.new.seat.book.entries }
         ensures left { IfErr result (λ stop. LeadsLeft A.act_of self.new.settles stop self.new.seat.node.tables self.new.seat.book.entries (L.trace self.new.seat.link)) }
         ensures same { (self.new.others ≡ self.old.others) × (self.new.settles ≡ self.old.settles) × (self.new.phase ≡ self.old.phase) }
         ensures site { IsSameSite self.old.seat.node.tables self.new.seat.node.tables }
         ensures unfed { AddsNoLine self.old.seat.book.entries self.new.seat.book.entries }
         ensures waves { waits self.old.waves ≡ false → OnOk result (self.new.waves ≡ self.old.waves) }
         ensures calm { OnOk result (L.faults self.new.seat.link ≡ L.faults self.old.seat.link) }
-        ensures stops { IfErr result (IsCauseBy IsNoFrame self.new.seat.node.tables self.new.seat.book.entries (L.latest self.new.seat.link) (L.faults self.old.seat.link) (L.faults self.new.seat.link)) }
+        ensures stops { IfErr result (IsCauseBy IsNoFrame ⊥ self.new.seat.node.tables self.new.seat.book.entries (L.latest self.new.seat.link) (L.faults self.old.seat.link) (L.faults self.new.seat.link)) }
     {
         match self.seat.go(alloc) {
             Ok(true) => return Ok(false),
@@ -132,14 +132,13 @@ impl<A: Acts + Copy, L: Link + Drop> ConsoleSeat<A, L> {
         requires leads { Leads A.act_of self.old.others self.old.settles self.old.phase self.old.seat.node.tables self.old.seat.book.entries (L.trace self.old.seat.link) self.old.waves }
         ensures leads { OnOk result (Leads A.act_of self.new.others self.new.settles self.new.phase self.new.seat.node.tables self.new.seat.book.entries (L.trace self.new.seat.link) self.new.waves) }
         ensures ready { OnOk result (IsReady self.new.seat.node.tables) }
-        ensures room { OnOk result (HasRoom self.new.seat.book.entries) }
         ensures left { IfErr result (λ stop. LeadsLeft A.act_of self.new.settles stop self.new.seat.node.tables self.new.seat.book.entries (L.trace self.new.seat.link)) }
         ensures same { (self.new.others ≡ self.old.others) × (self.new.settles ≡ self.old.settles) × (self.new.phase ≡ self.old.phase) }
         ensures site { IsSameSite self.old.seat.node.tables self.new.seat.node.tables }
         ensures unfed { AddsNoLine self.old.seat.book.entries self.new.seat.book.entries }
         ensures waves { waits self.old.waves ≡ false → OnOk result (self.new.waves ≡ self.old.waves) }
         ensures calm { OnOk result (L.faults self.new.seat.link ≡ L.faults self.old.seat.link) }
-        ensures stops { IfErr result (IsCauseBy IsNoFrame self.new.seat.node.tables self.new.seat.book.entries (L.latest self.new.seat.link) (L.faults self.old.seat.link) (L.faults self.new.seat.link)) }
+        ensures stops { IfErr result (IsCauseBy IsNoFrame ⊥ self.new.seat.node.tables self.new.seat.book.entries (L.latest self.new.seat.link) (L.faults self.old.seat.link) (L.faults self.new.seat.link)) }
     {
         for _ in rt.forever() {
             match self.step(alloc) {
@@ -151,9 +150,9 @@ impl<A: Acts + Copy, L: Link + Drop> ConsoleSeat<A, L> {
         unreachable!()
     }
 
-    /// Begins the round anew where no wave has a number any more.
+    /// Begins the round anew where no wave has a number any more: there are no other members then.
     fn renew(&mut self)
-        requires done { waits self.old.waves ≡ false }
+        requires again { verdict_of self.old.waves ≡ Again }
         requires leads { Leads A.act_of self.old.others self.old.settles self.old.phase self.old.seat.node.tables self.old.seat.book.entries (L.trace self.old.seat.link) self.old.waves }
         ensures leads { (Leads A.act_of self.new.others self.new.settles self.new.phase self.new.seat.node.tables self.new.seat.book.entries (L.trace self.new.seat.link) self.new.waves) }
         ensures done { waits self.new.waves ≡ false }
@@ -171,7 +170,7 @@ impl<A: Acts + Copy, L: Link + Drop> ConsoleSeat<A, L> {
     /// Begins a wave with its own numbers, and tells the others.
     fn begin(&mut self, alloc: Global) -> Result<(), Stop>
         requires passive { IsPassive self.old.seat.node.tables }
-        requires done { waits self.old.waves ≡ false }
+        requires again { verdict_of self.old.waves ≡ Again }
         requires due { IsDue self.old.settles self.old.phase }
         requires leads { Leads A.act_of self.old.others self.old.settles self.old.phase self.old.seat.node.tables self.old.seat.book.entries (L.trace self.old.seat.link) self.old.waves }
         ensures leads { OnOk result (Leads A.act_of self.new.others self.new.settles self.new.phase self.new.seat.node.tables self.new.seat.book.entries (L.trace self.new.seat.link) self.new.waves) }
@@ -180,7 +179,7 @@ impl<A: Acts + Copy, L: Link + Drop> ConsoleSeat<A, L> {
         ensures book { self.new.seat.book ≡ self.old.seat.book }
         ensures same { (self.new.others ≡ self.old.others) × (self.new.settles ≡ self.old.settles) × (self.new.phase ≡ self.old.phase) }
         ensures calm { OnOk result (L.faults self.new.seat.link ≡ L.faults self.old.seat.link) }
-        ensures stops { IfErr result (IsCauseBy IsNoFrame self.new.seat.node.tables self.new.seat.book.entries (L.latest self.new.seat.link) (L.faults self.old.seat.link) (L.faults self.new.seat.link)) }
+        ensures stops { IfErr result (IsCauseBy IsNoFrame ⊥ self.new.seat.node.tables self.new.seat.book.entries (L.latest self.new.seat.link) (L.faults self.old.seat.link) (L.faults self.new.seat.link)) }
     {
         self.renew();
         let body = match wave(alloc, self.waves.begun()) {
@@ -207,7 +206,7 @@ impl<A: Acts + Copy, L: Link + Drop> ConsoleSeat<A, L> {
         ensures site { IsSameSite self.old.seat.node.tables self.new.seat.node.tables }
         ensures unfed { AddsNoLine self.old.seat.book.entries self.new.seat.book.entries }
         ensures calm { OnOk result (L.faults self.new.seat.link ≡ L.faults self.old.seat.link) }
-        ensures stops { IfErr result (IsCauseBy IsNoFrame self.new.seat.node.tables self.new.seat.book.entries (L.latest self.new.seat.link) (L.faults self.old.seat.link) (L.faults self.new.seat.link)) }
+        ensures stops { IfErr result (IsCauseBy IsNoFrame ⊥ self.new.seat.node.tables self.new.seat.book.entries (L.latest self.new.seat.link) (L.faults self.old.seat.link) (L.faults self.new.seat.link)) }
     {
         match self.settle(rt, alloc) {
             Ok(()) => {}
@@ -238,7 +237,7 @@ impl<A: Acts + Copy, L: Link + Drop> ConsoleSeat<A, L> {
         ensures site { IsSameSite self.old.seat.node.tables self.new.seat.node.tables }
         ensures unfed { AddsNoLine self.old.seat.book.entries self.new.seat.book.entries }
         ensures calm { OnOk result (L.faults self.new.seat.link ≡ L.faults self.old.seat.link) }
-        ensures stops { IfErr result (IsCauseBy IsNoFrame self.new.seat.node.tables self.new.seat.book.entries (L.latest self.new.seat.link) (L.faults self.old.seat.link) (L.faults self.new.seat.link)) }
+        ensures stops { IfErr result (IsCauseBy IsNoFrame ⊥ self.new.seat.node.tables self.new.seat.book.entries (L.latest self.new.seat.link) (L.faults self.old.seat.link) (L.faults self.new.seat.link)) }
     {
         for _ in rt.forever() {
             match self.advance(rt, alloc) {
@@ -265,7 +264,7 @@ impl<A: Acts + Copy, L: Link + Drop> ConsoleSeat<A, L> {
         ensures same { (self.new.others ≡ self.old.others) × (self.new.settles ≡ self.old.settles) }
         ensures phase { OnOk result (self.new.phase ≡ Serving) }
         ensures site { IsSameSite self.old.seat.node.tables self.new.seat.node.tables }
-        ensures stops { IfErr result (IsCauseBy IsNoFrame self.new.seat.node.tables self.new.seat.book.entries (L.latest self.new.seat.link) (L.faults self.old.seat.link) (L.faults self.new.seat.link)) }
+        ensures stops { IfErr result (IsCauseBy IsNoFrame (self.new.seat.book.entries ≡ self.old.seat.book.entries) self.new.seat.node.tables self.new.seat.book.entries (L.latest self.new.seat.link) (L.faults self.old.seat.link) (L.faults self.new.seat.link)) }
     {
         if !self.seat.book.room() {
             return Err(Stop::JournalFull);
@@ -295,7 +294,7 @@ impl<A: Acts + Copy, L: Link + Drop> ConsoleSeat<A, L> {
         ensures same { (self.new.others ≡ self.old.others) × (self.new.settles ≡ self.old.settles) }
         ensures site { IsSameSite self.old.seat.node.tables self.new.seat.node.tables }
         ensures calm { OnOk result (L.faults self.new.seat.link ≡ L.faults self.old.seat.link) }
-        ensures stops { IfErr result (IsCauseBy IsNoFrame self.new.seat.node.tables self.new.seat.book.entries (L.latest self.new.seat.link) (L.faults self.old.seat.link) (L.faults self.new.seat.link)) }
+        ensures stops { IfErr result (IsCauseBy IsNoFrame (self.new.seat.book.entries ≡ self.old.seat.book.entries) self.new.seat.node.tables self.new.seat.book.entries (L.latest self.new.seat.link) (L.faults self.old.seat.link) (L.faults self.new.seat.link)) }
     {
         match self.feed(alloc, line) {
             Ok(()) => {}
@@ -332,7 +331,8 @@ impl<A: Acts + Copy, L: Link + Drop> ConsoleSeat<A, L> {
         ensures over { (first : _) → Serves (rules_of A.act_of self.old.seat.node.tables.localities self.old.seat.node.tables.profile) self.old.seat.book.entries (Only (I.went first lines.old)) Asking →
             result ≡ Ok false → IsOver (rules_of A.act_of self.new.seat.node.tables.localities self.new.seat.node.tables.profile) self.new.seat.book.entries (I.went first lines.new) }
         ensures broken { (first : _) → Serves (rules_of A.act_of self.old.seat.node.tables.localities self.old.seat.node.tables.profile) self.old.seat.book.entries (Only (I.went first lines.old)) Asking →
-            IfErr result (λ halt. (stage : Stage) × Serves (rules_of A.act_of self.new.seat.node.tables.localities self.new.seat.node.tables.profile) self.new.seat.book.entries (Saying (I.went first lines.new) (I.broke first lines.new) halt) stage) }
+            IfErr result (λ halt. (stage : Stage) × Serves (rules_of A.act_of self.new.seat.node.tables.localities self.new.seat.node.tables.profile) self.new.seat.book.entries (Saying (I.went first lines.new) (I.broke first lines.new) halt) stage
+            × IsDueAt halt stage self.new.seat.node.tables (L.latest self.new.seat.link)) }
         ensures left { IfErr result (λ halt. HaltsLeft A.act_of self.new.settles halt self.new.seat.node.tables self.new.seat.book.entries (L.trace self.new.seat.link)) }
         ensures same { (self.new.others ≡ self.old.others) × (self.new.settles ≡ self.old.settles) }
         ensures site { IsSameSite self.old.seat.node.tables self.new.seat.node.tables }
@@ -366,7 +366,8 @@ impl<A: Acts + Copy, L: Link + Drop> ConsoleSeat<A, L> {
         ensures over { (first : _) → Serves (rules_of A.act_of self.old.seat.node.tables.localities self.old.seat.node.tables.profile) self.old.seat.book.entries (Only (I.went first lines.old)) Asking →
             OnOk result (IsOver (rules_of A.act_of self.new.seat.node.tables.localities self.new.seat.node.tables.profile) self.new.seat.book.entries (I.went first lines.new)) }
         ensures broken { (first : _) → Serves (rules_of A.act_of self.old.seat.node.tables.localities self.old.seat.node.tables.profile) self.old.seat.book.entries (Only (I.went first lines.old)) Asking →
-            IfErr result (λ halt. (stage : Stage) × Serves (rules_of A.act_of self.new.seat.node.tables.localities self.new.seat.node.tables.profile) self.new.seat.book.entries (Saying (I.went first lines.new) (I.broke first lines.new) halt) stage) }
+            IfErr result (λ halt. (stage : Stage) × Serves (rules_of A.act_of self.new.seat.node.tables.localities self.new.seat.node.tables.profile) self.new.seat.book.entries (Saying (I.went first lines.new) (I.broke first lines.new) halt) stage
+            × IsDueAt halt stage self.new.seat.node.tables (L.latest self.new.seat.link)) }
         ensures left { IfErr result (λ halt. HaltsLeft A.act_of self.new.settles halt self.new.seat.node.tables self.new.seat.book.entries (L.trace self.new.seat.link)) }
         ensures same { (self.new.others ≡ self.old.others) × (self.new.settles ≡ self.old.settles) }
         ensures site { IsSameSite self.old.seat.node.tables self.new.seat.node.tables }
@@ -396,7 +397,8 @@ impl<A: Acts + Copy, L: Link + Drop> ConsoleSeat<A, L> {
         ensures serves { (first : _) → IsOver (rules_of A.act_of self.old.seat.node.tables.localities self.old.seat.node.tables.profile) self.old.seat.book.entries (I.went first lines.old) →
             OnOk result (Serves (rules_of A.act_of self.new.seat.node.tables.localities self.new.seat.node.tables.profile) self.new.seat.book.entries (Only (I.went first lines.new)) Done) }
         ensures broken { (first : _) → IsOver (rules_of A.act_of self.old.seat.node.tables.localities self.old.seat.node.tables.profile) self.old.seat.book.entries (I.went first lines.old) →
-            IfErr result (λ halt. (stage : Stage) × Serves (rules_of A.act_of self.new.seat.node.tables.localities self.new.seat.node.tables.profile) self.new.seat.book.entries (Saying (I.went first lines.new) (I.broke first lines.new) halt) stage) }
+            IfErr result (λ halt. (stage : Stage) × Serves (rules_of A.act_of self.new.seat.node.tables.localities self.new.seat.node.tables.profile) self.new.seat.book.entries (Saying (I.went first lines.new) (I.broke first lines.new) halt) stage
+            × IsDueAt halt stage self.new.seat.node.tables (L.latest self.new.seat.link)) }
         ensures left { IfErr result (λ halt. HaltsLeft A.act_of self.new.settles halt self.new.seat.node.tables self.new.seat.book.entries (L.trace self.new.seat.link)) }
         ensures same { (self.new.others ≡ self.old.others) × (self.new.settles ≡ self.old.settles) }
         ensures site { IsSameSite self.old.seat.node.tables self.new.seat.node.tables }
@@ -429,7 +431,7 @@ impl<A: Acts + Copy, L: Link + Drop> ConsoleSeat<A, L> {
         ensures left { IfErr result (λ stop. LeadsLeft A.act_of self.new.settles stop self.new.seat.node.tables self.new.seat.book.entries (L.trace self.new.seat.link)) }
         ensures same { (self.new.others ≡ self.old.others) × (self.new.settles ≡ self.old.settles) × (self.new.phase ≡ self.old.phase) }
         ensures calm { OnOk result (L.faults self.new.seat.link ≡ L.faults self.old.seat.link) }
-        ensures stops { IfErr result (IsCauseBy IsNoFrame self.new.seat.node.tables self.new.seat.book.entries (L.latest self.new.seat.link) (L.faults self.old.seat.link) (L.faults self.new.seat.link)) }
+        ensures stops { IfErr result (IsCauseBy IsNoFrame ⊥ self.new.seat.node.tables self.new.seat.book.entries (L.latest self.new.seat.link) (L.faults self.old.seat.link) (L.faults self.new.seat.link)) }
     {
         match self.seat.tell_all(self.others, END) {
             Ok(()) => Ok(()),
@@ -448,7 +450,8 @@ impl<A: Acts + Copy, L: Link + Drop> ConsoleSeat<A, L> {
         ensures serves { (first : _) → Serves (rules_of A.act_of self.old.seat.node.tables.localities self.old.seat.node.tables.profile) self.old.seat.book.entries (Only (I.went first lines.old)) Asking →
             OnOk result (Serves (rules_of A.act_of self.new.seat.node.tables.localities self.new.seat.node.tables.profile) self.new.seat.book.entries (Only (I.went first lines.new)) Done) }
         ensures broken { (first : _) → Serves (rules_of A.act_of self.old.seat.node.tables.localities self.old.seat.node.tables.profile) self.old.seat.book.entries (Only (I.went first lines.old)) Asking →
-            IfErr result (λ halt. (stage : Stage) × Serves (rules_of A.act_of self.new.seat.node.tables.localities self.new.seat.node.tables.profile) self.new.seat.book.entries (Saying (I.went first lines.new) (I.broke first lines.new) halt) stage) }
+            IfErr result (λ halt. (stage : Stage) × Serves (rules_of A.act_of self.new.seat.node.tables.localities self.new.seat.node.tables.profile) self.new.seat.book.entries (Saying (I.went first lines.new) (I.broke first lines.new) halt) stage
+            × IsDueAt halt stage self.new.seat.node.tables (L.latest self.new.seat.link)) }
         ensures left { IfErr result (λ halt. HaltsLeft A.act_of self.new.settles halt self.new.seat.node.tables self.new.seat.book.entries (L.trace self.new.seat.link)) }
         ensures same { (self.new.others ≡ self.old.others) × (self.new.settles ≡ self.old.settles) }
         ensures site { IsSameSite self.old.seat.node.tables self.new.seat.node.tables }
@@ -476,8 +479,9 @@ impl<A: Acts + Copy, L: Link + Drop> ConsoleSeat<A, L> {
 /// accepted; where all that was sent by a wave had been accepted by the one before, it tells them to end. With `settles` such a round
 /// ends before each line but the first, too.
 ///
-/// Status 0 where all this was done, 2 where no line was read, 3 where something was not written, 4 at a fault of the link, 5 where the journal has no
-/// room, 6 without memory, 7 at a bad frame, 8 at a strange parcel or a word that no wave waits for, 9 where no more lines are read.
+/// Status 0 where all this was done, 2 where no line was read, 3 where something was not written, 4 at a fault of the link, 5 where a turn is due and the
+/// journal has no room, 6 without memory, 7 at a bad frame, 8 at a strange parcel, at a word that no wave waits for, or where 2^32 - 1 waves of one round
+/// have not ended it, 9 where no more lines are read.
 pub fn console<R: Wait, A: Acts + Copy, L: Link + Drop, I: Lines>(
     rt: &R,
     alloc: Global,
@@ -503,6 +507,8 @@ pub fn console<R: Wait, A: Acts + Copy, L: Link + Drop, I: Lines>(
     ensures failed { result.status ≡ 4 → Rose (L.faults link) (L.faults result.link) }
     ensures calm { result.status ≢ 4 → L.faults result.link ≡ L.faults link }
     ensures full { result.status ≡ 5 → HasRoom result.journal.entries → ⊥ }
+    ensures due { result.status ≡ 5 → HasLineToFeed (rules_of A.act_of (A.count acts) profile) result.journal.entries (I.went lines.old lines.new)
+        ⊎ IfSome result.node (λ n. IsTurnDue n.tables (L.latest result.link)) }
     ensures fault { IfSome result.fault (λ fault. (result.status ≡ status_of_fault fault) × IfSome result.node (λ n. IsFaultBy IsNoFrame n.tables (L.latest result.link) fault)) }
     ensures faultless { result.fault ≡ None → (result.status ≢ 7) × (result.status ≢ 8) }
     ensures unbooted { result.node ≡ None → (result.status ≡ 6) × (result.journal.entries ≡ []) × (result.link ≡ link) }

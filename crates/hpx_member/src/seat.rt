@@ -94,18 +94,20 @@ impl<A: Acts + Copy, L: Link + Drop> Seat<A, L> {
         Ok(true)
     }
 
-    /// A turn of the node's own, or else a message is sent. False where there is neither.
+    /// A turn of the node's own, or else a message is sent; room is looked at only where something is under way here. False where there is neither.
     pub fn go(&mut self, alloc: Global) -> Result<bool, Stop>
         requires sits { Sits A.act_of self.old.node.tables self.old.book.entries [] (L.trace self.old.link) }
         ensures sits { Sits A.act_of self.new.node.tables self.new.book.entries [] (L.trace self.new.link) }
         ensures site { IsSameSite self.old.node.tables self.new.node.tables }
         ensures grows { Grows self.old.node.tables self.new.node.tables self.old.book.entries self.new.book.entries }
-        ensures room { result ≡ Ok false → HasRoom self.new.book.entries }
         ensures sends { MaySend (L.trace self.old.link) (L.trace self.new.link) }
         ensures calm { OnOk result (L.faults self.new.link ≡ L.faults self.old.link) }
         ensures stops { IfErr result (IsCause self.new.node.tables self.new.book.entries (L.latest self.new.link) (L.faults self.old.link) (L.faults self.new.link)) }
         ensures other { IfErr result IsOther }
     {
+        if self.node.is_passive() {
+            return Ok(false);
+        }
         if !self.book.room() {
             return Err(Stop::JournalFull);
         }
@@ -201,10 +203,9 @@ impl<A: Acts + Copy, L: Link + Drop> Seat<A, L> {
         }
     }
 
-    /// Accepts a frame that came; nothing changes at a refusal.
+    /// Accepts a frame that came; nothing changes at a refusal, nor where there is no room.
     pub fn accept(&mut self, alloc: Global, from: u32, body: &Bytes) -> Result<(), Stop>
         requires frame { is_frame body.now ≡ true }
-        requires room { HasRoom self.old.book.entries }
         requires latest { L.latest self.old.link ≡ Got from body.now }
         requires heard { Sits A.act_of self.old.node.tables self.old.book.entries (heard self.old.node.tables.here body.now) (L.trace self.old.link) }
         ensures sits { OnOk result (Sits A.act_of self.new.node.tables self.new.book.entries [] (L.trace self.new.link)) }
@@ -216,6 +217,9 @@ impl<A: Acts + Copy, L: Link + Drop> Seat<A, L> {
         ensures stops { IfErr result (IsCause self.new.node.tables self.new.book.entries (L.latest self.new.link) (L.faults self.old.link) (L.faults self.new.link)) }
         ensures other { IfErr result IsOther }
     {
+        if !self.book.room() {
+            return Err(Stop::JournalFull);
+        }
         match self.node.take(alloc, &mut self.book, body) {
             Ok(()) => Ok(()),
             Err(fault) => Err(stop_of_take(from, fault)),

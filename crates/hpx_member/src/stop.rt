@@ -33,6 +33,9 @@ pub enum MemberFault {
     OutOfPlace {
         from: u32,
     },
+    /// No wave has a number any more, and the round has not ended.
+    #[error("no wave is left")]
+    Waves,
 }
 
 /// Why a member ends before it is told to.

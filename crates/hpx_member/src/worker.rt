@@ -11,7 +11,7 @@ ghost use Rattle.std.specs.List.{AllByRecursion};
 ghost use Rattle.hpx_journal.specs.Sessions.{FeedsNothing};
 ghost use Rattle.hpx_member.specs.Feeding.{AddsNoLine};
 ghost use Rattle.hpx_member.specs.Seats.{IsNodeAt, IsPart, IsSameSite, Sits, Tells};
-ghost use Rattle.hpx_member.specs.Stops.{IsCause, IsFault, IsWorkersStatus, SitsLeft, status_of_fault};
+ghost use Rattle.hpx_member.specs.Stops.{IsCause, IsFault, IsTurnDue, IsWorkersStatus, SitsLeft, status_of_fault};
 ghost use Rattle.hpx_member.specs.Words.{Heeds, HeedsBut, IsHeeded, StopsHeeding};
 ghost use Rattle.hpx_ports.specs.declared.link.Post.TheVariants.{Received};
 
@@ -70,7 +70,6 @@ impl<A: Acts + Copy, L: Link + Drop> WorkerSeat<A, L> {
 
     /// Waits for a body, and does what it says.
     fn hear(&mut self, alloc: Global) -> Result<Step, Stop>
-        requires room { HasRoom self.old.seat.book.entries }
         requires sits { Sits A.act_of self.old.seat.node.tables self.old.seat.book.entries [] (L.trace self.old.seat.link) }
         requires heeded { IsHeeded self.old.waiting.items (L.trace self.old.seat.link) }
         ensures sits { OnOk result (Sits A.act_of self.new.seat.node.tables self.new.seat.book.entries [] (L.trace self.new.seat.link)) }
@@ -155,7 +154,7 @@ impl<A: Acts + Copy, L: Link + Drop> WorkerSeat<A, L> {
 /// One locality as a member over a link, without lines: it makes the turns of its node, sends what the node sends, accepts what comes, and
 /// answers each wave once nothing is to be done here, until the console tells it to end.
 ///
-/// Status 0 where it was told to end, 4 at a fault of the link, 5 where the journal has no room, 6 without memory, 7 at a bad frame, 8 at a strange
+/// Status 0 where it was told to end, 4 at a fault of the link, 5 where a turn is due and the journal has no room, 6 without memory, 7 at a bad frame, 8 at a strange
 /// parcel or a word out of place. At 7 and 8 `fault` is what the node, as it stands then, refuses of what came last.
 pub fn worker<R: Wait, A: Acts + Copy, L: Link + Drop>(
     rt: &R,
@@ -179,6 +178,7 @@ pub fn worker<R: Wait, A: Acts + Copy, L: Link + Drop>(
     ensures failed { result.status ≡ 4 → Rose (L.faults link) (L.faults result.link) }
     ensures calm { result.status ≢ 4 → L.faults result.link ≡ L.faults link }
     ensures full { result.status ≡ 5 → HasRoom result.journal.entries → ⊥ }
+    ensures due { result.status ≡ 5 → IfSome result.node (λ n. IsTurnDue n.tables (L.latest result.link)) }
     ensures fault { IfSome result.fault (λ fault. (result.status ≡ status_of_fault fault) × IfSome result.node (λ n. IsFault n.tables (L.latest result.link) fault)) }
     ensures faultless { result.fault ≡ None → (result.status ≢ 7) × (result.status ≢ 8) }
     ensures unbooted { result.node ≡ None → (result.status ≡ 6) × (result.journal.entries ≡ []) × (result.link ≡ link) }

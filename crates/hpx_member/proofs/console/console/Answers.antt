@@ -7,16 +7,16 @@ use Rattle.hpx_ended.specs.Tally.{fresh, waits}
 use Rattle.hpx_member.specs.Seats.{IsPart, Tells}
 use Rattle.hpx_member.specs.Serves.{IsIdleBehind}
 use Rattle.hpx_member.proofs.Ended.{tells_none}
-use Rattle.hpx_member.proofs.Halted.{asked_end, asked_unbooted, lines_end, part_halted, rest_end, served_end, tells_halted}
+use Rattle.hpx_member.proofs.Halted.{asked_end, asked_unbooted, due_end, lines_end, part_halted, rest_end, served_end, tells_halted}
 use Rattle.hpx_member.proofs.Led.{leads_first, waits_fresh}
 use Rattle.hpx_member.proofs.Seated.{sits_first}
 use Rattle.hpx_member.proofs.Serving.{serves_first}
 use Rattle.hpx_member.proofs.Whys.{calm_halted, failed_halted, fault_halted, faultless_halted, full_halted, node_halted, status_halted}
-use Rattle.hpx_member.specs.Leads.{IsConsolesStatus, IsNoFrame, halted_status}
+use Rattle.hpx_member.specs.Leads.{HasLineToFeed, IsConsolesStatus, IsNoFrame, halted_status}
 use Rattle.hpx_member.specs.Seats.{IsNodeAt}
-use Rattle.hpx_member.specs.Stops.{IsFaultBy, status_of_fault}
+use Rattle.hpx_member.specs.Stops.{IsFaultBy, IsTurnDue, status_of_fault}
 use Rattle.hpx_ports.specs.Faults.{Rose}
-use Rattle.std.specs.Prelude.{IfSome}
+use Rattle.std.specs.Prelude.{IfSome, ◌⊎◌}
 use Rattle.hpx_member.proofs.console.console.Goals as goal
 
 -- at boot nothing is under way
@@ -29,7 +29,7 @@ returns-in-Err-clause-tells g c = λ tr told.
 
 pub returns-in-Err-clause-asked : goal.returns-in-Err-clause-asked
 returns-in-Err-clause-asked g c =
-    asked_unbooted _ _ _ _ _ _ c.unbooted.ensures.status c.unbooted.ensures.journal
+    asked_unbooted _ _ _ _ _ _ c.unbooted.ensures.status c.unbooted.ensures.fault c.unbooted.ensures.journal
     (λ tr told. c.requires.empty tr (sym (ap g.L.Link.trace c.unbooted.ensures.link) ∙ told))
 
 pub returns-in-Err-boot-clause-tells : goal.returns-in-Err-boot-clause-tells
@@ -38,7 +38,8 @@ returns-in-Err-boot-clause-tells g c = λ tr told.
 
 pub returns-in-Err-boot-clause-asked : goal.returns-in-Err-boot-clause-asked
 returns-in-Err-boot-clause-asked g c =
-    asked_unbooted _ _ _ _ _ _ c.unbooted-in-Err-boot.ensures.status c.unbooted-in-Err-boot.ensures.journal
+    asked_unbooted _ _ _ _ _ _ c.unbooted-in-Err-boot.ensures.status c.unbooted-in-Err-boot.ensures.fault
+    c.unbooted-in-Err-boot.ensures.journal
     (λ tr told. c.requires.empty tr (sym (ap g.L.Link.trace c.unbooted-in-Err-boot.ensures.link) ∙ told))
 
 pub run-ran-requires-clause-next : goal.run-ran-requires-clause-next
@@ -94,7 +95,7 @@ returns-clause-served g c =
     served_end g.A.Acts.act_of (g.A.Acts.count c.args.acts) c.args.profile ran.node.tables ran.book.entries (g.L.Link.trace ran.link)
     (c.run-ran.ensures.site.here ∙ c.in-Ok-boot.ensures.here) (c.run-ran.ensures.site.localities ∙ c.in-Ok-boot.ensures.localities)
     (c.run-ran.ensures.site.profile ∙ c.in-Ok-boot.ensures.profile)
-    c.run-ran.result (g.I.Lines.went c.args.lines.now c.run-ran.new.lines) (g.I.Lines.broke c.args.lines.now c.run-ran.new.lines) _ _
+    c.run-ran.result (g.L.Link.latest ran.link) (g.I.Lines.went c.args.lines.now c.run-ran.new.lines) (g.I.Lines.broke c.args.lines.now c.run-ran.new.lines) _ _
     (c.run-ran.ensures.serves c.args.lines.now first) (c.run-ran.ensures.broken c.args.lines.now first) c.halted.ensures.status
     (ap (λ (b : Book). b.entries) c.halted.ensures.journal)
 
@@ -140,6 +141,21 @@ returns-clause-full g c = λ e room.
     let ran = c.run-ran.new.self.seat in
     full_halted ran.node.tables ran.book.entries (g.L.Link.latest ran.link) _ _ _ _ _ (g.L.Link.faults c.args.link) (g.L.Link.faults ran.link)
     c.run-ran.result c.run-ran.ensures.stops (sym c.halted.ensures.status ∙ e) (subst (λ (b : Book). HasRoom b.entries) c.halted.ensures.journal room)
+
+pub returns-clause-due : goal.returns-clause-due
+returns-clause-due g c = λ e.
+    let ran = c.run-ran.new.self.seat in
+    let first = serves_first (rules_of g.A.Acts.act_of c.in-Ok-boot.node.tables.localities c.in-Ok-boot.node.tables.profile) c.new-2.result.entries
+    (g.I.Lines.went c.args.lines.now c.args.lines.now) c.new-2.ensures c.requires.first
+    (idle_boot (rules_of g.A.Acts.act_of c.in-Ok-boot.node.tables.localities c.in-Ok-boot.node.tables.profile)) in
+    subst (λ m. HasLineToFeed (rules_of g.A.Acts.act_of (g.A.Acts.count c.args.acts) c.args.profile) c.halted.result.journal.entries (g.I.Lines.went c.args.lines.now c.run-ran.new.lines)
+    ⊎ IfSome m (λ n. IsTurnDue n.tables (g.L.Link.latest c.halted.result.link))) (sym c.halted.ensures.node)
+    (due_end g.A.Acts.act_of (g.A.Acts.count c.args.acts) c.args.profile ran.node.tables ran.book.entries (g.L.Link.trace ran.link)
+    (c.run-ran.ensures.site.here ∙ c.in-Ok-boot.ensures.here) (c.run-ran.ensures.site.localities ∙ c.in-Ok-boot.ensures.localities)
+    (c.run-ran.ensures.site.profile ∙ c.in-Ok-boot.ensures.profile)
+    c.run-ran.result (g.L.Link.latest ran.link) (g.I.Lines.went c.args.lines.now c.run-ran.new.lines) (g.I.Lines.broke c.args.lines.now c.run-ran.new.lines) _ _ _
+    (c.run-ran.ensures.broken c.args.lines.now first) c.halted.ensures.status (ap (λ (b : Book). b.entries) c.halted.ensures.journal)
+    (ap g.L.Link.latest c.halted.ensures.link) e)
 
 pub returns-clause-fault : goal.returns-clause-fault
 returns-clause-fault g c =

@@ -5,10 +5,10 @@ use Rattle.hpx_member.specs.Seats.{IsPart, Tells}
 use Rattle.hpx_member.specs.Words.{Heeds}
 use Rattle.hpx_member.proofs.Ended.{part_ran, tells_none, tells_ran}
 use Rattle.hpx_member.proofs.Heeded.{heeds_ran}
-use Rattle.hpx_member.proofs.Whys.{calm_ran, end_ran, failed_ran, fault_ran, faultless_ran, full_ran, node_ran, status_ran}
+use Rattle.hpx_member.proofs.Whys.{calm_ran, due_ran, end_ran, failed_ran, fault_ran, faultless_ran, full_ran, node_ran, status_ran}
 use Rattle.hpx_member.specs.Bodies.{end_body}
 use Rattle.hpx_member.specs.Seats.{IsNodeAt}
-use Rattle.hpx_member.specs.Stops.{IsFault, IsWorkersStatus, end_status, status_of_fault}
+use Rattle.hpx_member.specs.Stops.{IsFault, IsTurnDue, IsWorkersStatus, end_status, status_of_fault}
 use Rattle.hpx_ports.specs.Faults.{Rose}
 use Rattle.hpx_ports.specs.declared.link.Latest.TheVariants.{Got}
 use Rattle.std.specs.Prelude.{IfSome, ◌≡◌}
@@ -75,6 +75,14 @@ returns-clause-full g c = λ e room.
     let ran = c.run-ran.new.self.seat in
     full_ran ran.node.tables ran.book.entries (g.L.Link.latest ran.link) (g.L.Link.faults c.args.link) (g.L.Link.faults ran.link)
     c.run-ran.result c.run-ran.ensures.stops (sym c.ended.ensures.status ∙ e) (subst (λ (b : Book). HasRoom b.entries) c.ended.ensures.journal room)
+
+pub returns-clause-due : goal.returns-clause-due
+returns-clause-due g c = λ e.
+    let ran = c.run-ran.new.self.seat in
+    subst (λ m. IfSome m (λ n. IsTurnDue n.tables (g.L.Link.latest c.ended.result.link))) (sym c.ended.ensures.node)
+    (subst (λ l. IsTurnDue ran.node.tables (g.L.Link.latest l)) (sym c.ended.ensures.link)
+    (due_ran ran.node.tables ran.book.entries (g.L.Link.latest ran.link) (g.L.Link.faults c.args.link) (g.L.Link.faults ran.link)
+    c.run-ran.result c.run-ran.ensures.stops (sym c.ended.ensures.status ∙ e)))
 
 pub returns-clause-fault : goal.returns-clause-fault
 returns-clause-fault g c =

@@ -5,6 +5,7 @@ use Rattle.hpx_member.proofs.console.ConsoleSeat.close.Goals as goal
 pub returns-in-Err-clause-broken : goal.returns-in-Err-clause-broken
 returns-in-Err-clause-broken g c = λ first s.
     last_stopped g.A.Acts.act_of _ _ _ _ (g.I.Lines.went first c.args.lines.now) c.round.ensures.site s c.round.ensures.unfed
+    _ _ _ c.in-Err.stop c.in-Err.ensures.stops
 
 pub returns-in-Ok-show-clause-serves : goal.returns-in-Ok-show-clause-serves
 returns-in-Ok-show-clause-serves g c = λ first s.

@@ -6,5 +6,5 @@ use Rattle.hpx_member.proofs.console.ConsoleSeat.run.Goals as goal
 
 pub returns-in-Err-end-clause-broken : goal.returns-in-Err-end-clause-broken
 returns-in-Err-end-clause-broken g c = λ first s.
-    serves_stays g.A.Acts.act_of _ _ _ _ _ _ (ap (λ (n : Locality). n.tables) c.end.ensures.node) (ap (λ (b : Book). b.entries) c.end.ensures.book)
-    (c.in-Ok-close.ensures.serves first (c.in-Ok.ensures.over first s))
+    serves_stays g.A.Acts.act_of _ _ _ _ _ _ _ _ _ c.in-Err-end.stop (ap (λ (n : Locality). n.tables) c.end.ensures.node)
+    (ap (λ (b : Book). b.entries) c.end.ensures.book) (c.in-Ok-close.ensures.serves first (c.in-Ok.ensures.over first s)) c.in-Err-end.ensures.stops

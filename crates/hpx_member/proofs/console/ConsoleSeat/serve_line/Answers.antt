@@ -5,7 +5,8 @@ use Rattle.hpx_member.proofs.console.ConsoleSeat.serve_line.Goals as goal
 pub returns-in-Err-answer-clause-broken : goal.returns-in-Err-answer-clause-broken
 returns-in-Err-answer-clause-broken g c = λ first s.
     line_most g.A.Acts.act_of _ _ _ _ (g.I.Lines.went first c.args.lines.now) (g.I.Lines.went first c.next.new.self) c.in-Ok-Some.line
-    c.answer.ensures.site s (λ talk w. rw c.in-Ok-Some.field-0-is at (c.in-Ok-Some.ensures.said first talk w)) c.answer.ensures.most
+    c.answer.ensures.site s (λ talk w. rw c.in-Ok-Some.field-0-is at (c.in-Ok-Some.ensures.said first talk w)) _ _ _ c.in-Err-answer.stop
+    c.in-Err-answer.ensures.stops c.answer.ensures.most
 
 pub returns-in-Ok-show-clause-serves : goal.returns-in-Ok-show-clause-serves
 returns-in-Ok-show-clause-serves g c = λ first s same.

@@ -15,6 +15,7 @@ pub returns-then-awaited-eq0-clause-leads : goal.returns-then-awaited-eq0-clause
 returns-then-awaited-eq0-clause-leads g c =
     leads_gone g.A.Acts.act_of _ _ _ _ _ _ _ _ _ _ c.requires.leads c.go.ensures.sits c.go.ensures.site c.go.ensures.grows c.go.ensures.sends
 
-pub hear-requires-clause-leads : goal.hear-requires-clause-leads
-hear-requires-clause-leads g c =
-    leads_gone g.A.Acts.act_of _ _ _ _ _ _ _ _ _ _ c.requires.leads c.go.ensures.sits c.go.ensures.site c.go.ensures.grows c.go.ensures.sends
+pub hear-requires : goal.hear-requires
+hear-requires g c = record {
+  leads = leads_gone g.A.Acts.act_of _ _ _ _ _ _ _ _ _ _ c.requires.leads c.go.ensures.sits c.go.ensures.site c.go.ensures.grows c.go.ensures.sends;
+}
