@@ -22,7 +22,7 @@ use hpx_counters::counter::Counter;
 use hpx_member::console::console;
 use hpx_member::end::MemberEnd;
 use hpx_member::worker::worker;
-use hpx_ports::link::{Link, LinkFault, Opener};
+use hpx_ports::link::{Link, LinkFault, Opener, Seat};
 use hpx_ports::sink::Sink;
 use hpx_ports::source::Source;
 use hpx_top::acts::AllActs;
@@ -267,8 +267,12 @@ pub fn join<R: Wait, P: Opener, S: Source, K: Sink>(
     ensures unread { (problem : Problem) → membership.now.errand ≡ Errand.Problem problem → source.new ≡ source.old }
     ensures unlinked { result.member ≡ None → (source.new ≡ source.old) × (sink.new ≡ sink.old) }
 {
-    let node = membership.role.node();
-    let link = match opener.connect(node, membership.localities, membership.port) {
+    let seat = Seat {
+        node: membership.role.node(),
+        n: membership.localities,
+        port: membership.port,
+    };
+    let link = match opener.connect(seat) {
         Ok(link) => link,
         Err(fault) => {
             return Joined {
