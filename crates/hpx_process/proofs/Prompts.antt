@@ -160,7 +160,7 @@ prompt_unwritten fault s reading left taken old new at_open why w =
       [],
       [],
       subst (λ f. Fails f (Asking [] []) x z) (sym why)
-          (prompt_fails Write [] x z at_open refl refl w (handed_none (lines_at x)) (record { next = λ all h. h; counted = refl })),
+          (prompt_fails Write [] x z at_open refl refl w (handed_none (lines_at x)) (record { next = λ all h. h; counted = refl; limit = λ few. few })),
     )
 
 pub error_unwritten : (fault : LineFault) (line : List ℕ) (x z : Sitting) (mid : Option (List ℕ)) → x.sheet ≡ Open → z.sheet ≡ x.sheet → fault ≡ Write → is_long line ≡ true

@@ -1,5 +1,5 @@
 -- What a console left at its desk, and by its slip.
-use Rattle.std.specs.Prelude.{◌+◌, ◌⊎◌, ◌==◌}
+use Rattle.std.specs.Prelude.{◌+◌, ◌≤◌, ◌⊎◌, ◌==◌}
 use Rattle.std.specs.List.{concat, AllByRecursion}
 use Rattle.std.proofs.Common.{ℕ, Bool, true, false, List, [], ◌∷◌, ◌++◌, ◌≡◌, Option, Some, None, map, refl, sym, ap, ◌∙◌, subst, arith, append-nil, append_assoc, inl, inr}
 use Rattle.std.proofs.lemmas.Bool.{eqb-true}
@@ -89,6 +89,12 @@ sat_full x z fresh full reads =
     let none : x.reading.read ≡ 0 = ap (λ r. r.read) fresh in
     let all : z.reading.read ≡ 67108864 = eqb-true z.reading.read 67108864 full in
     omega (arith, reads.counted, none, all)
+
+pub sat_limit : (x z : Sitting) → x.reading ≡ record { pending = []; read = 0; ended = false } → Reads x z → z.taken ≤ x.taken + 67108864
+sat_limit x z fresh reads =
+    let none : x.reading.read ≡ 0 = ap (λ r. r.read) fresh in
+    let few = reads.limit (omega (arith, none)) in
+    omega (arith, reads.counted, none, few)
 
 -- ---- by a slip
 
@@ -269,6 +275,7 @@ sat_cause n p settles r m x z s sheet first reading blank fresh served console l
       read_only = lines.read_only;
       write_only = lines.write_only;
       frame_only = λ h. (same, console.member.calm h);
+      limit = sat_limit (at_first x) end refl (sat_reads r m.status m.entries (at_first x) end all);
     }
 
 pub reckoned : (r : Rules) (m : Left) (x z : Ports) (given line : List ℕ) (first asked : Bool) → given ≡ line → first ≡ false

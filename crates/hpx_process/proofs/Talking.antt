@@ -29,12 +29,13 @@ turns_more a [] m d n t e = (n, subst (λ s. Turns s d n) t e, refl)
 turns_more a (x ∷ ds) m d n t e = (t.0, t.1, turns_more t.0 ds m d n t.2 e)
 
 pub reads_none : (x : Sitting) → Reads x x
-reads_none x = record { next = λ all h. h; counted = refl }
+reads_none x = record { next = λ all h. h; counted = refl; limit = λ few. few }
 
 pub reads_more : (x y z : Sitting) → Reads x y → Reads y z → Reads x z
 reads_more x y z r s = record {
   next = λ all h. s.next all (r.next all h);
   counted = omega (arith, r.counted, s.counted);
+  limit = λ few. s.limit (r.limit few);
 }
 
 pub handed_none : (all : Option (List (List ℕ))) → HandsOut all all []
@@ -155,7 +156,7 @@ opens_does s reading left taken old new blank h = record {
   others = lines_left reading left;
   typed = λ other. handed_none (lines_left reading left);
   left = λ other. refl;
-  reads = record { next = λ all h. h; counted = refl };
+  reads = record { next = λ all h. h; counted = refl; limit = λ few. few };
 }
 
 pub rests_does : (s : Sheet) (reading : Reading) (left : Option (List ℕ)) (taken : ℕ) (text : Option (List ℕ)) → s ≡ Full
@@ -166,7 +167,7 @@ rests_does s reading left taken text full = record {
   others = None;
   typed = λ other. absurd (other full);
   left = λ other. absurd (other full);
-  reads = record { next = λ all h. h; counted = refl };
+  reads = record { next = λ all h. h; counted = refl; limit = λ few. few };
 }
 
 shows_turn : (s : Sheet) (es : List Entry) → Turns s (Shows es) s
@@ -182,7 +183,7 @@ shows_does es s reading left taken old new h = record {
   others = lines_left reading left;
   typed = λ other. handed_none (lines_left reading left);
   left = λ other. same_left s (lines_left reading left) other;
-  reads = record { next = λ all h. h; counted = refl };
+  reads = record { next = λ all h. h; counted = refl; limit = λ few. few };
 }
 
 shows_break : (s : Sheet) (es : List Entry) → Breaks Write s (Showing es)
@@ -197,7 +198,7 @@ shows_fails es s reading left taken old new w = record {
   breaks = shows_break s es;
   text = w;
   typed = λ other. handed_none (lines_left reading left);
-  reads = record { next = λ all h. h; counted = refl };
+  reads = record { next = λ all h. h; counted = refl; limit = λ few. few };
 }
 
 pub shows_broken : (fault : LineFault) (es : List Entry) (s : Sheet) (reading : Reading) (left : Option (List ℕ)) (taken : ℕ) (old new : Option (List ℕ)) (x : Sitting) (talk : List Talk)
@@ -215,7 +216,7 @@ opening_fails fault s reading left taken old new blank why w = record {
   breaks = subst (λ a. Breaks fault a Opening) (sym blank) why;
   text = w;
   typed = λ other. handed_none (lines_left reading left);
-  reads = record { next = λ all h. h; counted = refl };
+  reads = record { next = λ all h. h; counted = refl; limit = λ few. few };
 }
 
 -- what is answered is what the deed says

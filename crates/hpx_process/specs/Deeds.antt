@@ -88,10 +88,11 @@ sitting sheet reading left taken text = record { sheet = sheet; reading = readin
 abbrev pub lines_at : Sitting → Option (List (List ℕ))
 lines_at x = lines_left x.reading x.left
 
--- what was read are the next bytes, and they were counted
+-- what was read are the next bytes, they were counted, and they are no more than may be read
 pub record Reads (x z : Sitting) : Type 0 where
   pub next : (all : Option (List ℕ)) → HasRead all x.reading x.left → HasRead all z.reading z.left
   pub counted : z.reading.read + x.taken ≡ x.reading.read + z.taken
+  pub limit : x.reading.read ≤ 67108864 → z.reading.read ≤ 67108864
 
 -- behind the lines that were typed so many are left, or on a full sheet none before a `quit`
 abbrev pub AreLeft : Sheet → Option (List (List ℕ)) → Option (List (List ℕ)) → Type 0

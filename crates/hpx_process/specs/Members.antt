@@ -1,5 +1,5 @@
 -- What a process leaves that was one locality of several.
-use Rattle.std.specs.Prelude.{ℕ, Bool, false, Option, Some, None, IfSome, List, [], ◌∷◌, ◌≡◌, ◌≢◌, ◌+◌, ◌⊎◌}
+use Rattle.std.specs.Prelude.{ℕ, Bool, false, Option, Some, None, IfSome, List, [], ◌∷◌, ◌≡◌, ◌≢◌, ◌≤◌, ◌+◌, ◌⊎◌}
 use Rattle.std.specs.List.{concat, AllByRecursion}
 use Rattle.hpx_value.specs.declared.profile.Profile.{Profile}
 use Rattle.hpx_journal.specs.Entries.{Rules}
@@ -132,8 +132,8 @@ HasWritten membership status m x z (Worker node) = (status ≡ m.status) × IsSi
 
 -- ---- the whole
 
--- Each status has its cause, and no port failed but that which the status names: 4 is of what connects the members, or of the link, which had not
--- failed before.
+-- Each status has its cause, no port failed but that which the status names, and at most 67,108,864 bytes were read: 4 is of what connects the members,
+-- or of the link, which had not failed before.
 pub record HasMembersCause (status link : ℕ) (x z : Ports) : Type 0 where
   pub read : status ≡ 2 → Rose x.read_faults z.read_faults
   pub write : status ≡ 3 → Rose x.write_faults z.write_faults
@@ -142,6 +142,7 @@ pub record HasMembersCause (status link : ℕ) (x z : Ports) : Type 0 where
   pub read_only : status ≢ 2 → z.read_faults ≡ x.read_faults
   pub write_only : status ≢ 3 → z.write_faults ≡ x.write_faults
   pub frame_only : status ≢ 4 → (z.frame_faults ≡ x.frame_faults) × (link ≡ 0)
+  pub limit : z.taken ≤ x.taken + 67108864
 
 -- how often the link failed
 abbrev pub faults_in : Option Left → ℕ

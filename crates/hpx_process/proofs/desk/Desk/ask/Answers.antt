@@ -40,5 +40,5 @@ returns-in-Over-clause-does g c =
       Ends t.0,
       tt,
       ends_lines t.0 _ _ _ c.requires.sheet t.1 (record { last = types.by.last; written = types.by.written }) refl
-          (record { next = types.reads.next; counted = types.reads.counted }),
+          (record { next = types.reads.next; counted = types.reads.counted; limit = types.reads.limit }),
     )
