@@ -14,7 +14,7 @@ use Rattle.hpx_member.specs.Serves.{Asking, Block, Closing, Done, Feeding, Given
 use Rattle.hpx_member.specs.Talks.{Only, Talk, Handed, Over, Shown}
 use Rattle.hpx_member.specs.declared.lines.LineFault.{LineFault}
 use Rattle.hpx_member.specs.declared.lines.LineFault.TheVariants.{Read, Write, OutOfMemory, InputFull}
-use Rattle.hpx_top.specs.Ends.{IsReadFrom}
+use Rattle.hpx_top.specs.Ends.{IsReadFrom, IsReadUp}
 use Rattle.hpx_top.specs.Reader.{Reading}
 use Rattle.hpx_top.specs.Session.{WritesFront, lines_fed}
 use Rattle.hpx_top.proofs.EndLemmas.{read_from, read_none}
@@ -27,7 +27,7 @@ use Rattle.hpx_process.specs.Members.{HasMembersCause, HasReckoned, HasSat, IsCo
 use Rattle.hpx_process.specs.Parts.{IsWhole}
 use Rattle.hpx_process.specs.Slips.{HasPassed, HasStuck, IfOver, Note, note, handed_by, handed_in, shown_by, shown_in, unasked}
 use Rattle.hpx_process.proofs.Passing.{prints_append}
-use Rattle.hpx_process.proofs.Texts.{whole}
+use Rattle.hpx_process.proofs.Texts.{read_up, whole}
 
 -- ---- what holds of all that is said
 
@@ -75,6 +75,12 @@ pub sat_whole : (r : Rules) (status : ℕ) (es : List Entry) (input : List ℕ) 
 sat_whole r status es input x z blank fresh left well served =
     let s = served_done r es (HasTalked x z) (HasBroken x z) (subst (λ n. HasServed r n es (HasTalked x z) (HasBroken x z)) well served) in
     whole r input s.blocks s.rest es x z blank fresh left s.is s.idle s.begin s.at s.talk
+
+pub sat_read_up : (r : Rules) (status : ℕ) (es : List Entry) (input : List ℕ) (x z : Sitting) → x.sheet ≡ Blank → x.reading ≡ record { pending = []; read = 0; ended = false } → x.left ≡ Some input
+    → status ≡ 0 → HasServed r status es (HasTalked x z) (HasBroken x z) → IsReadUp input z.left
+sat_read_up r status es input x z blank fresh left well served =
+    let s = served_done r es (HasTalked x z) (HasBroken x z) (subst (λ n. HasServed r n es (HasTalked x z) (HasBroken x z)) well served) in
+    read_up r input s.blocks s.rest x z blank fresh left s.begin (read_none x.left x.reading fresh) s.talk
 
 pub sat_reads : (r : Rules) (status : ℕ) (es : List Entry) (x z : Sitting) → HasServed r status es (HasTalked x z) (HasBroken x z) → Reads x z
 sat_reads r status es x z served = served_fact r status es (HasTalked x z) (HasBroken x z) (Reads x z) (λ talk h. h.reads) (λ fault talk tried h. h.reads) served
@@ -256,6 +262,7 @@ sat r m x z s sheet first reading blank fresh served =
       served = all;
       reads = λ input left. sat_read_from input (at_first x) end refl left (sat_reads r m.status m.entries (at_first x) end all);
       whole = λ well input left. sat_whole r m.status m.entries input (at_first x) end refl refl left well all;
+      read_up = λ well input left. sat_read_up r m.status m.entries input (at_first x) end refl refl left well all;
     }
 
 pub sat_cause : (n : ℕ) (p : Profile) (settles : Bool) (r : Rules) (m : Left) (x z : Ports) (s sheet : Sheet) (first reading : Reading) → s ≡ Blank

@@ -22,7 +22,7 @@ use Rattle.hpx_member.specs.Stops.{IsFaultBy, IsWorkersStatus, status_of_fault}
 use Rattle.hpx_member.specs.Words.{Heeds}
 use Rattle.hpx_member.specs.declared.stop.MemberFault.{MemberFault}
 use Rattle.hpx_top.specs.Acts.{act_of}
-use Rattle.hpx_top.specs.Ends.{IsReadFrom}
+use Rattle.hpx_top.specs.Ends.{IsReadFrom, IsReadUp}
 use Rattle.hpx_top.specs.Printed.{HasCounted}
 use Rattle.hpx_top.specs.Reader.{Reading}
 use Rattle.hpx_top.specs.Runs.{Ports}
@@ -90,7 +90,8 @@ IsOfRole membership m (Worker node) = IsWorker membership.localities membership.
 
 -- ---- what a console reads and writes
 
--- It sat at a desk: its lines were handed out there, and its entries shown. Where it ended well, that is the whole text of the input.
+-- It sat at a desk: its lines were handed out there, and its entries shown. Where it ended well, that is the whole text of the input, which was read up
+-- to its end or to `quit`.
 pub record HasSat (r : Rules) (m : Left) (x z : Ports) : Type 0 where
   pub sheet : Sheet
   pub reading : Reading
@@ -99,6 +100,7 @@ pub record HasSat (r : Rules) (m : Left) (x z : Ports) : Type 0 where
       (HasBroken (sitting Blank (record { pending = []; read = 0; ended = false }) x.left x.taken x.text) (sitting sheet reading z.left z.taken z.text))
   pub reads : (input : List ℕ) → x.left ≡ Some input → IsReadFrom input z.left x.taken z.taken
   pub whole : m.status ≡ 0 → (input : List ℕ) → x.left ≡ Some input → IsWhole r input m.entries x.text z.text
+  pub read_up : m.status ≡ 0 → (input : List ℕ) → x.left ≡ Some input → IsReadUp input z.left
 
 -- It was given a slip with this line: that was fed, or nothing, and the prints or a front of them were written, where it ended well all. It read
 -- nothing.
