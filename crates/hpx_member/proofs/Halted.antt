@@ -10,7 +10,7 @@ use Rattle.hpx_steps.specs.Rest.{rules_of}
 use Rattle.hpx_ended.specs.Tally.{fresh}
 use Rattle.hpx_ports.specs.declared.link.Latest.{Latest}
 use Rattle.hpx_ports.specs.declared.link.Post.{Post}
-use Rattle.hpx_member.specs.Leads.{Ends, HaltsLeft, HasAsked, HasLineCause, HasServed, IsHaltCause, IsReady, MayClose, Saying, halt_status, halted_fault, halted_status, status_of_lines}
+use Rattle.hpx_member.specs.Leads.{Ends, HaltsLeft, HasAsked, HasLineCause, HasServed, IsHaltCause, IsNotOfLines, IsReady, MayClose, Saying, halt_status, halted_fault, halted_status, status_of_lines}
 use Rattle.hpx_member.specs.Rounds.{AsksBut, Asking, Ending, Last, Nothing, Refused}
 use Rattle.hpx_member.specs.Seats.{IsPart, Meaning, Sits, Tells}
 use Rattle.hpx_member.specs.Serves.{Done, IsIdleBehind, Serves, Stage}
@@ -38,6 +38,18 @@ stop_some OutOfMemory e = omega (arith, e)
 stop_some (Fault (BadFrame from at why)) e = omega (arith, e)
 stop_some (Fault (Strange from rule object kept)) e = omega (arith, e)
 stop_some (Fault (OutOfPlace from)) e = omega (arith, e)
+
+-- nor does it end as its lines do
+none_apart : IsNotOfLines 0
+none_apart = (λ e. omega (arith, e), λ e. omega (arith, e), λ e. omega (arith, e))
+
+stop_apart : (stop : Stop) → IsNotOfLines (status_of stop)
+stop_apart Link = (λ e. omega (arith, e), λ e. omega (arith, e), λ e. omega (arith, e))
+stop_apart JournalFull = (λ e. omega (arith, e), λ e. omega (arith, e), λ e. omega (arith, e))
+stop_apart OutOfMemory = (λ e. omega (arith, e), λ e. omega (arith, e), λ e. omega (arith, e))
+stop_apart (Fault (BadFrame from at why)) = (λ e. omega (arith, e), λ e. omega (arith, e), λ e. omega (arith, e))
+stop_apart (Fault (Strange from rule object kept)) = (λ e. omega (arith, e), λ e. omega (arith, e), λ e. omega (arith, e))
+stop_apart (Fault (OutOfPlace from)) = (λ e. omega (arith, e), λ e. omega (arith, e), λ e. omega (arith, e))
 
 lines_some : (fault : LineFault) → status_of_lines fault ≢ 0
 lines_some line_faults.Read e = omega (arith, e)
@@ -108,10 +120,10 @@ module _ (act_of : Meaning) (n : ℕ) (profile : Profile) (t : Tables) (es : Lis
       served_here : (ran : Result (Unit {0}) Halt) → OnOk ran (Serves (rules_of act_of t.localities t.profile) es (Only Went) Done)
           → IfErr ran (λ halt. (stage : Stage) × Serves (rules_of act_of t.localities t.profile) es (Saying Went Broke halt) stage)
           → HasServed (rules_of act_of t.localities t.profile) (halted_status ran) es Went Broke
-      served_here (Ok x) ok err = record { stage = Done; serves = inl ok; done = λ e. refl }
+      served_here (Ok x) ok err = record { stage = Done; serves = inl (none_apart, ok); done = λ e. refl }
       served_here (Err (Lines fault)) ok err =
           record { stage = err.0; serves = inr (fault, refl, err.1); done = λ e. absurd (lines_some fault e) }
-      served_here (Err (Member stop)) ok err = record { stage = err.0; serves = inl err.1; done = λ e. absurd (stop_some stop e) }
+      served_here (Err (Member stop)) ok err = record { stage = err.0; serves = inl (stop_apart stop, err.1); done = λ e. absurd (stop_some stop e) }
 
 -- nothing was asked
 pub asked_unbooted : (r : Rules) (settles : Bool) (status : ℕ) (fault : Option MemberFault) (es : List Entry) (trace : Option (List Post)) → status ≡ 6 → es ≡ []

@@ -14,6 +14,7 @@ use Rattle.hpx_ports.specs.Told.{followed}
 use Rattle.hpx_ports.specs.declared.link.Latest.{Latest}
 use Rattle.hpx_ports.specs.declared.link.Latest.TheVariants.{Got}
 use Rattle.hpx_ports.specs.declared.link.Post.{Post}
+use Rattle.app_console.specs.Lines.{IsPiece}
 use Rattle.hpx_member.specs.Bodies.{IsOutOfPlace, end_body}
 use Rattle.hpx_member.specs.Leads.{HasAsked, HasServed, IsConsolesStatus, IsNoFrame}
 use Rattle.hpx_member.specs.Seats.{IsNodeAt, IsPart, Tells}
@@ -91,7 +92,7 @@ IsOfRole membership m (Worker node) = IsWorker membership.localities membership.
 -- ---- what a console reads and writes
 
 -- It sat at a desk: its lines were handed out there, and its entries shown. Where it ended well, that is the whole text of the input, which was read up
--- to its end or to `quit`.
+-- to its end or to `quit`. Where no line could be read, or no more may be, no whole line that was read is left.
 pub record HasSat (r : Rules) (m : Left) (x z : Ports) : Type 0 where
   pub sheet : Sheet
   pub reading : Reading
@@ -101,6 +102,7 @@ pub record HasSat (r : Rules) (m : Left) (x z : Ports) : Type 0 where
   pub reads : (input : List ℕ) → x.left ≡ Some input → IsReadFrom input z.left x.taken z.taken
   pub whole : m.status ≡ 0 → (input : List ℕ) → x.left ≡ Some input → IsWhole r input m.entries x.text z.text
   pub read_up : m.status ≡ 0 → (input : List ℕ) → x.left ≡ Some input → IsReadUp input z.left
+  pub between_lines : (m.status ≡ 2) ⊎ (m.status ≡ 9) → IsPiece reading.pending
 
 -- It was given a slip with this line: that was fed, or nothing, and the prints or a front of them were written, where it ended well all. It read
 -- nothing.
