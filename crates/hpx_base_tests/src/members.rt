@@ -1,7 +1,7 @@
 ghost use Rattle.std.specs.Prelude.{◌≡◌};
 
 use hpx_ports::adapters::WriterSink;
-use hpx_ports::link::{Link, LinkFault, Opener};
+use hpx_ports::link::{Link, LinkFault, Opener, Seat};
 use hpx_ports::sink::write_all;
 use hpx_tcp::open::TcpPorts;
 use hpx_tcp::reader::{Start, start_reader};
@@ -40,7 +40,7 @@ fn talk<R: Net<Listener = TcpListener, Stream = TcpStream> + Threads + Wait + Cl
     node: u32,
     port: u16,
 ) -> Result<(u32, u8), LinkFault> {
-    let mut link = ports.connect(node, 2, port)?;
+    let mut link = ports.connect(Seat { node, n: 2, port })?;
     link.send(1 - node.min(1), &[node.min(255) as u8])?;
     let (from, body) = link.recv()?;
     Ok((from, body.as_slice().first().copied().unwrap_or(99)))
@@ -105,7 +105,25 @@ fn a_strange_hello_is_a_fault(rt: HostRuntime) -> Result<(), Fail> {
 fn a_member_without_a_peer_is_a_fault(rt: HostRuntime) -> Result<(), Fail> {
     let start: Start = Box::new(rt.alloc(), move |reader| start_reader(rt, reader))?;
     let mut ports = TcpPorts::new(rt, rt.alloc(), start);
-    assert!(rt; matches!(ports.connect(1, 2, free_port(&rt)), Err(LinkFault::Failed)));
-    assert!(rt; matches!(ports.connect(2, 2, 7910), Err(LinkFault::Failed)));
+    assert!(rt;
+        matches!(
+            ports.connect(Seat {
+                node: 1,
+                n: 2,
+                port: free_port(&rt)
+            }),
+            Err(LinkFault::Failed)
+        )
+    );
+    assert!(rt;
+        matches!(
+            ports.connect(Seat {
+                node: 2,
+                n: 2,
+                port: 7910
+            }),
+            Err(LinkFault::Failed)
+        )
+    );
     Ok(())
 }

@@ -1,5 +1,5 @@
 use hpx_ports::child_spawner::ChildSpawner;
-use hpx_ports::link::{Link, LinkFault, Opener};
+use hpx_ports::link::{Link, LinkFault, Opener, Seat};
 use hpx_ports::memory_opener::MemOpener;
 use hpx_ports::memory_spawner::MemSpawner;
 use hpx_ports::spawner::{SpawnFault, Spawner};
@@ -106,14 +106,19 @@ fn an_opener_gives_one_link_with_what_comes(rt: HostRuntime) -> Result<(), Fail>
         none,
         calls(alloc, &[1])?,
     );
-    assert!(rt; opener.connect(0, 3, 7910).is_err());
-    let mut link = opener.connect(0, 3, 7910)?;
+    let seat = Seat {
+        node: 0,
+        n: 3,
+        port: 7910,
+    };
+    assert!(rt; opener.connect(seat).is_err());
+    let mut link = opener.connect(seat)?;
     assert_eq!(rt; link.send(1, &[5]), Err(LinkFault::Failed));
     let first = match link.recv() {
         Ok((from, body)) => from == 2 && body.as_slice() == [7].as_slice(),
         Err(_) => false,
     };
     assert!(rt; first);
-    assert!(rt; opener.connect(0, 3, 7910)?.recv().is_err());
+    assert!(rt; opener.connect(seat)?.recv().is_err());
     Ok(())
 }

@@ -10,7 +10,7 @@ use Rattle.hpx_steps.specs.Rest.{rules_of}
 use Rattle.hpx_ended.specs.Tally.{fresh}
 use Rattle.hpx_ports.specs.declared.link.Latest.{Latest}
 use Rattle.hpx_ports.specs.declared.link.Post.{Post}
-use Rattle.hpx_member.specs.Leads.{Ends, HaltsLeft, HasAsked, HasLineCause, HasLineToFeed, HasServed, IsDueAt, IsHaltCause, IsReady, MayClose, Saying, halt_status, halted_fault, halted_status, status_of_lines}
+use Rattle.hpx_member.specs.Leads.{Ends, HaltsLeft, HasAsked, HasLineCause, HasLineToFeed, HasServed, IsDueAt, IsHaltCause, IsNotOfLines, IsReady, MayClose, Saying, halt_status, halted_fault, halted_status, status_of_lines}
 use Rattle.hpx_member.specs.Rounds.{AsksBut, Asking, Ending, Last, Nothing, Refused, Spent}
 use Rattle.hpx_member.specs.Seats.{IsPart, Meaning, Sits, Tells}
 use Rattle.hpx_member.specs.Serves.{Done, IsIdleBehind, Serves, Stage}
@@ -50,6 +50,19 @@ waves_left (Fault (BadFrame from at why)) other e = absurd (let no : Some (BadFr
 waves_left (Fault (Strange from rule object kept)) other e = absurd (let no : Some (Strange from rule object kept) ≡ Some Waves = e in cc)
 waves_left (Fault (OutOfPlace from)) other e = absurd other
 waves_left (Fault Waves) other e = absurd other
+
+-- nor does it end as its lines do
+none_apart : IsNotOfLines 0
+none_apart = (λ e. omega (arith, e), λ e. omega (arith, e), λ e. omega (arith, e))
+
+stop_apart : (stop : Stop) → IsNotOfLines (status_of stop)
+stop_apart Link = (λ e. omega (arith, e), λ e. omega (arith, e), λ e. omega (arith, e))
+stop_apart JournalFull = (λ e. omega (arith, e), λ e. omega (arith, e), λ e. omega (arith, e))
+stop_apart OutOfMemory = (λ e. omega (arith, e), λ e. omega (arith, e), λ e. omega (arith, e))
+stop_apart (Fault (BadFrame from at why)) = (λ e. omega (arith, e), λ e. omega (arith, e), λ e. omega (arith, e))
+stop_apart (Fault (Strange from rule object kept)) = (λ e. omega (arith, e), λ e. omega (arith, e), λ e. omega (arith, e))
+stop_apart (Fault (OutOfPlace from)) = (λ e. omega (arith, e), λ e. omega (arith, e), λ e. omega (arith, e))
+stop_apart (Fault Waves) = (λ e. omega (arith, e), λ e. omega (arith, e), λ e. omega (arith, e))
 
 lines_some : (fault : LineFault) → status_of_lines fault ≢ 0
 lines_some line_faults.Read e = omega (arith, e)
@@ -124,10 +137,10 @@ module _ (act_of : Meaning) (n : ℕ) (profile : Profile) (t : Tables) (es : Lis
       served_here : (ran : Result (Unit {0}) Halt) → OnOk ran (Serves (rules_of act_of t.localities t.profile) es (Only Went) Done)
           → IfErr ran (λ halt. (stage : Stage) × Serves (rules_of act_of t.localities t.profile) es (Saying Went Broke halt) stage × IsDueAt halt stage t latest)
           → HasServed (rules_of act_of t.localities t.profile) (halted_status ran) es Went Broke
-      served_here (Ok x) ok err = record { stage = Done; serves = inl ok; done = λ e. refl }
+      served_here (Ok x) ok err = record { stage = Done; serves = inl (none_apart, ok); done = λ e. refl }
       served_here (Err (Lines fault)) ok err =
           record { stage = err.0; serves = inr (fault, refl, err.1); done = λ e. absurd (lines_some fault e) }
-      served_here (Err (Member stop)) ok err = record { stage = err.0; serves = inl err.1; done = λ e. absurd (stop_some stop e) }
+      served_here (Err (Member stop)) ok err = record { stage = err.0; serves = inl (stop_apart stop, err.1); done = λ e. absurd (stop_some stop e) }
 
   -- where there was no room, a turn was due
   pub due_halted : (latest : Latest) (Went : List Talk → Type 0) (Broke : LineFault → List Talk → List Talk → Type 0) (ran : Result (Unit {0}) Halt)
@@ -247,15 +260,6 @@ calm_cause status reads reads' writes writes' full two three nine r w = record {
   write_only = λ e. w;
 }
 
-stop_calm : (stop : Stop) → (status_of stop ≢ 2) × (status_of stop ≢ 3) × (status_of stop ≢ 9)
-stop_calm Link = (λ e. omega (arith, e), λ e. omega (arith, e), λ e. omega (arith, e))
-stop_calm JournalFull = (λ e. omega (arith, e), λ e. omega (arith, e), λ e. omega (arith, e))
-stop_calm OutOfMemory = (λ e. omega (arith, e), λ e. omega (arith, e), λ e. omega (arith, e))
-stop_calm (Fault (BadFrame from at why)) = (λ e. omega (arith, e), λ e. omega (arith, e), λ e. omega (arith, e))
-stop_calm (Fault (Strange from rule object kept)) = (λ e. omega (arith, e), λ e. omega (arith, e), λ e. omega (arith, e))
-stop_calm (Fault (OutOfPlace from)) = (λ e. omega (arith, e), λ e. omega (arith, e), λ e. omega (arith, e))
-stop_calm (Fault Waves) = (λ e. omega (arith, e), λ e. omega (arith, e), λ e. omega (arith, e))
-
 pub lines_end : (ran : Result (Unit {0}) Halt) (t : Tables) (es : List Entry) (latest : Latest) (reads reads' writes writes' : ℕ) (full : Bool)
     (before after status : ℕ) → OnOk ran ((after ≡ before) × (reads' ≡ reads) × (writes' ≡ writes))
     → IfErr ran (IsHaltCause t es latest reads reads' writes writes' full before after) → status ≡ halted_status ran
@@ -266,4 +270,4 @@ lines_end (Err (Lines fault)) t es latest reads reads' writes writes' full befor
     subst (λ x. HasLineCause x reads reads' writes writes' full) (sym is) (lines_cause fault reads reads' writes writes' full cause.0)
 lines_end (Err (Member stop)) t es latest reads reads' writes writes' full before after status calm cause is =
     subst (λ x. HasLineCause x reads reads' writes writes' full) (sym is)
-    (calm_cause (status_of stop) reads reads' writes writes' full (stop_calm stop).0 (stop_calm stop).1 (stop_calm stop).2 cause.1 cause.2)
+    (calm_cause (status_of stop) reads reads' writes writes' full (stop_apart stop).0 (stop_apart stop).1 (stop_apart stop).2 cause.1 cause.2)

@@ -149,10 +149,14 @@ pub record HasAsked (r : Rules) (settles : Bool) (status : ℕ) (fault : Option 
   pub asked : AsksBut r settles es trace last
   pub ends : Ends r.localities status fault last
 
+-- a status that is not one of its lines' alone: theirs are 2, 3 and 9
+abbrev pub IsNotOfLines : ℕ → Type 0
+IsNotOfLines status = (status ≢ 2) × (status ≢ 3) × (status ≢ 9)
+
 -- how it has served its lines, by what was said of them: at status 0 there are no more, and all that was written is shown
 pub record HasServed (r : Rules) (status : ℕ) (es : List Entry) (Went : List Talk → Type 0) (Broke : LineFault → List Talk → List Talk → Type 0) : Type 0 where
   pub stage : Stage
-  pub serves : Serves r es (Only Went) stage ⊎ ((fault : LineFault) × (status ≡ status_of_lines fault) × Serves r es (Broke fault) stage)
+  pub serves : (IsNotOfLines status × Serves r es (Only Went) stage) ⊎ ((fault : LineFault) × (status ≡ status_of_lines fault) × Serves r es (Broke fault) stage)
   pub done : status ≡ 0 → stage ≡ Done
 
 -- a line was handed out that is not fed, as it has served its lines

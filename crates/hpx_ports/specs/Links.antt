@@ -1,10 +1,13 @@
 -- What links pass on.
-use Rattle.std.specs.Prelude.{ℕ, List, [], ◌∷◌, Result, Ok, Err}
+use Rattle.std.specs.Prelude.{ℕ, List, [], ◌∷◌, Option, Some, None, Result, Ok, Err}
+use Rattle.hpx_ports.specs.Faults.{raised}
 use Rattle.hpx_ports.specs.declared.link.Post.{Post}
 use Rattle.hpx_ports.specs.declared.link.Post.TheVariants.{Received}
+use Rattle.hpx_ports.specs.declared.link.Asking.{Asking}
 use Rattle.hpx_ports.specs.declared.link.Latest.{Latest}
 use Rattle.hpx_ports.specs.declared.link.Latest.TheVariants.{Never, Got, Fault}
 use Rattle.hpx_ports.specs.declared.link.LinkFault.{LinkFault}
+use Rattle.hpx_ports.specs.declared.link.Seat.{Seat}
 use Rattle.hpx_ports.specs.declared.plan.Plan.{Plan}
 
 -- a body, and the locality where it comes from
@@ -20,6 +23,14 @@ latest_of (Err fault) = Fault
 abbrev pub posts_of : Body → List Post
 posts_of body = Received body.0 body.1 ∷ []
 
+-- nothing was asked
+abbrev pub unasked : Asking
+unasked = record { times = 0; seat = None }
+
+-- a seat was asked for, once more
+abbrev pub asked_for : Seat → Asking → Asking
+asked_for seat asked = record { times = raised asked.times; seat = Some seat }
+
 -- what a link in memory has: the bodies that are still to come, the trace, the latest, the calls that are to fail, and how many did
 pub record LinkState : Type 0 where
   pub coming : List Body
@@ -29,12 +40,14 @@ pub record LinkState : Type 0 where
   pub receives : Plan
   pub faults : ℕ
 
--- what an opener in memory has: what is to come on its next link, the sends and the receives that fail there, its own calls that are to fail, and how many did
+-- what an opener in memory has: what is to come on its next link, the sends and the receives that fail there, its own calls that are to fail, the seat that it
+-- was asked for last, and how many calls failed
 pub record OpenerState : Type 0 where
   pub coming : List Body
   pub sends : List ℕ
   pub receives : List ℕ
   pub connects : Plan
+  pub seat : Option Seat
   pub faults : ℕ
 
 -- the link that it opens next

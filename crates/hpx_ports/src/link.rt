@@ -1,8 +1,10 @@
 //! Links: what one member of several processes sends and receives.
 ghost use Rattle.std.specs.Prelude.{ℕ, List, ◌≡◌};
 ghost use Rattle.hpx_ports.specs.declared.link.LinkFault.TheVariants.{OutOfMemory as NoMemory};
+ghost use Rattle.hpx_ports.specs.Links.{asked_for, unasked};
 ghost use Rattle.std.specs.declared.option.Option.{Option};
 
+use crate::fault::raise;
 use hpx_value::items::Bytes;
 use hpx_value::memory::OutOfMemory;
 use thiserror::Error;
@@ -85,10 +87,47 @@ pub trait Link {
         ensures never_falls { faults self.old ≤ faults self.new };
 }
 
+/// Where a member is to sit: which of n members it is, from 0, and the port of the first of them.
+#[derive(Clone, Copy, Debug)]
+pub struct Seat {
+    pub node: u32,
+    pub n: u32,
+    pub port: u16,
+}
+
+/// What an opener was asked: how often, a count that stands still at `2^64 - 1`, and for which seat last.
+#[derive(Clone, Copy, Debug)]
+pub struct Asking {
+    pub times: u64,
+    pub seat: Option<Seat>,
+}
+
+impl Asking {
+    /// It was not asked yet.
+    pub fn none() -> Asking
+        ensures { result ≡ unasked }
+    {
+        Asking {
+            times: 0,
+            seat: None,
+        }
+    }
+
+    /// It is asked for a seat.
+    pub fn add(&mut self, seat: Seat)
+        ensures { self.new ≡ asked_for seat self.old }
+    {
+        self.times = raise(self.times);
+        self.seat = Some(seat);
+    }
+}
+
 /// What connects a member to the others.
 pub trait Opener {
     ghost use Rattle.std.specs.Prelude.{◌≡◌, ◌≤◌, [], Some, IfOk, IsErrOf};
     ghost use Rattle.hpx_ports.specs.Faults.{Rose};
+    ghost use Rattle.hpx_ports.specs.Links.{asked_for};
+    ghost use Rattle.hpx_ports.specs.declared.link.Asking.{Asking};
     ghost use Rattle.hpx_ports.specs.declared.link.Latest.{Latest};
     ghost use Rattle.hpx_ports.specs.declared.link.Post.{Post};
 
@@ -97,8 +136,12 @@ pub trait Opener {
     /// How often it has failed.
     ghost faults: { Self → ℕ };
 
-    /// Connects one of n members to the others. A link begins with nothing.
-    fn connect(&mut self, node: u32, n: u32, port: u16) -> Result<Self::Link, LinkFault>
+    /// What it was asked.
+    ghost asked: { Self → Asking };
+
+    /// Connects a member to the others. A link begins with nothing.
+    fn connect(&mut self, seat: Seat) -> Result<Self::Link, LinkFault>
+        ensures asked { asked self.new ≡ asked_for seat (asked self.old) }
         ensures faultless { IfOk result (λ link. Self.Link.faults link ≡ 0) }
         ensures unheard { IfOk result (λ link. Self.Link.latest link ≡ Latest.Never) }
         ensures empty { IfOk result (λ link. (tr : List Post) → Self.Link.trace link ≡ Some tr → tr ≡ []) }

@@ -1,11 +1,11 @@
 //! An opener in memory, which is told what comes on its link.
-ghost use Rattle.std.specs.Prelude.{◌≡◌, ◌≤◌, ◌↔◌, [], IsTrue, IfOk, IsErrOf, IsOk};
+ghost use Rattle.std.specs.Prelude.{◌≡◌, ◌≤◌, ◌↔◌, [], Some, None, IsTrue, IfOk, IsErrOf, IsOk};
 ghost use Rattle.hpx_ports.specs.Faults.{Rose, raised};
 ghost use Rattle.hpx_ports.specs.Plans.{fails_next, after_call};
 ghost use Rattle.hpx_ports.specs.Links.{link_of};
 
 use crate::fault::raise;
-use crate::link::{LinkFault, Opener};
+use crate::link::{LinkFault, Opener, Seat};
 use crate::memory_link::MemLink;
 use crate::plan::Plan;
 use hpx_value::items::{Bytes, Lengths};
@@ -22,6 +22,7 @@ pub struct MemOpener {
     sends: Lengths,
     receives: Lengths,
     connects: Plan,
+    seat: Option<Seat>,
     faults: u64,
 }
 
@@ -35,6 +36,7 @@ impl Model for MemOpener {
       sends = o.sends;
       receives = o.receives;
       connects = o.connects;
+      seat = o.seat;
       faults = o.faults;
     } };
 }
@@ -54,6 +56,7 @@ impl MemOpener {
           sends = sends;
           receives = receives;
           connects = record { numbers = connects; calls = 0 };
+          seat = None;
           faults = 0;
         } }
     {
@@ -66,6 +69,7 @@ impl MemOpener {
                 numbers: connects,
                 calls: 0,
             },
+            seat: None,
             faults: 0,
         }
     }
@@ -76,15 +80,18 @@ impl Opener for MemOpener {
 
     ghost faults = { λ o. o.faults };
 
-    fn connect(&mut self, _node: u32, _n: u32, _port: u16) -> Result<MemLink, LinkFault>
+    ghost asked = { λ o. record { times = o.connects.calls; seat = o.seat } };
+
+    fn connect(&mut self, seat: Seat) -> Result<MemLink, LinkFault>
         ensures planned { IsErrOf result LinkFault.Failed ↔ IsTrue (fails_next self.old.connects) }
         ensures sure { (IsErrOf result LinkFault.Failed → ⊥) → IsOk result }
         ensures link { IfOk result (λ link. link ≡ link_of self.old) }
-        ensures ok { IsOk result → self.new ≡ record { coming = []; sends = []; receives = []; connects = after_call self.old.connects; faults = self.old.faults } }
-        ensures failed { IsErrOf result LinkFault.Failed → self.new ≡ record self.old { connects = after_call self.old.connects; faults = raised self.old.faults } }
+        ensures ok { IsOk result → self.new ≡ record { coming = []; sends = []; receives = []; connects = after_call self.old.connects; seat = Some seat; faults = self.old.faults } }
+        ensures failed { IsErrOf result LinkFault.Failed → self.new ≡ record self.old { connects = after_call self.old.connects; seat = Some seat; faults = raised self.old.faults } }
         ensures cause { IsErrOf result LinkFault.Failed → Rose self.old.faults self.new.faults }
         ensures never_falls { self.old.faults ≤ self.new.faults }
     {
+        self.seat = Some(seat);
         if self.connects.next_fails() {
             self.faults = raise(self.faults);
             return Err(LinkFault::Failed);

@@ -194,7 +194,7 @@ module _ (n : ℕ) (p : Profile) (settles : Bool) (ms : ℕ → Left) (es : List
 
     feeds_here : FeedsIdle r (at_boot r 0) (ms 0).entries
     feeds_here = elim did.served.serves [
-      | inl h ↦ h.feeds
+      | inl h ↦ (h.1).feeds
       | inr h ↦ (h.2).feeds
     ]
 

@@ -79,6 +79,7 @@ counted_cause status ended link x mid text writes cause other well = by ended re
       read_only = λ s. cause.read_only (λ e. omega (arith, e, is));
       write_only = λ s. h.1 ∙ cause.write_only (λ e. omega (arith, e, is));
       frame_only = λ s. cause.frame_only (λ e. omega (arith, e, is));
+      limit = cause.limit;
     }
     ended_well is (inr h) = record {
       read = λ s. absurd (let no = h.0 in omega (arith, s, no));
@@ -88,6 +89,7 @@ counted_cause status ended link x mid text writes cause other well = by ended re
       read_only = λ s. cause.read_only (λ e. omega (arith, e, is));
       write_only = λ s. absurd (s h.0);
       frame_only = λ s. cause.frame_only (λ e. omega (arith, e, is));
+      limit = cause.limit;
     }
 
     ended_so : (status ≡ ended) × (writes ≡ mid.write_faults) → HasMembersCause status link x (record mid { text = text; write_faults = writes })
@@ -99,6 +101,7 @@ counted_cause status ended link x mid text writes cause other well = by ended re
       read_only = cause.read_only;
       write_only = λ s. h.1 ∙ cause.write_only s;
       frame_only = cause.frame_only;
+      limit = cause.limit;
     })
 
     by : (n : ℕ) → ended ≡ n → HasMembersCause status link x (record mid { text = text; write_faults = writes })
@@ -132,12 +135,36 @@ problem_cause lf left taken reads held writes status m n s t o k l z member sour
       read_only = λ e. refl;
       write_only = cause.write_only;
       frame_only = cause.frame_only;
+      limit = omega (arith);
     }) other well
+
+-- what reads nothing ends neither with 2 nor with 9, its counters written or not
+pub not_read : (status ended : ℕ) → (ended ≢ 2) × (ended ≢ 9) → (ended ≢ 0 → status ≡ ended) → (ended ≡ 0 → (status ≡ 0) ⊎ (status ≡ 3)) → (status ≢ 2) × (status ≢ 9)
+not_read status ended neither other well = by ended refl
+  where
+    ended_well : (status ≡ 0) ⊎ (status ≡ 3) → (status ≢ 2) × (status ≢ 9)
+    ended_well (inl h) = (λ s. omega (arith, s, h), λ s. omega (arith, s, h))
+    ended_well (inr h) = (λ s. omega (arith, s, h), λ s. omega (arith, s, h))
+
+    by : (n : ℕ) → ended ≡ n → (status ≢ 2) × (status ≢ 9)
+    by zero is = ended_well (well is)
+    by (suc n) is = let same = other (λ e. omega (arith, e, is)) in (λ s. neither.0 (sym same ∙ s), λ s. neither.1 (sym same ∙ s))
+
+ended_plainly : (status : ℕ) (A B : Type 0) → ((status ≡ 0) × A) ⊎ ((status ≡ 3) × B) → (status ≡ 0) ⊎ (status ≡ 3)
+ended_plainly status A B (inl h) = inl h.0
+ended_plainly status A B (inr h) = inr h.0
+
+-- so of what a console computes
+pub problem_not_read : {M : Type 0} {K : Type 0} (lf : M → Left) (writes : K → ℕ) (status : ℕ) (m n : M) (k z : K) → m ≡ n → ((lf n).status ≢ 2) × ((lf n).status ≢ 9)
+    → ((lf m).status ≢ 0 → (status ≡ (lf m).status) × (z ≡ k)) → ((lf m).status ≡ 0 → ((status ≡ 0) × (writes z ≡ writes k)) ⊎ ((status ≡ 3) × Rose (writes k) (writes z)))
+    → (status ≢ 2) × (status ≢ 9)
+problem_not_read lf writes status m n k z member neither other well =
+    not_read status (lf m).status (subst (λ a. ((lf a).status ≢ 2) × ((lf a).status ≢ 9)) (sym member) neither) (λ no. (other no).0) (λ is. ended_plainly status _ _ (well is))
 
 -- ---- the whole
 
 framed_done : (r : Rules) (errand : Errand) (m : Left) (x mid : Ports) (f : ℕ) → HasDone r errand m x mid → HasDone r errand m (record x { frame_faults = f }) (record mid { frame_faults = f })
-framed_done r Session m x mid f h = record { sheet = h.sheet; reading = h.reading; served = h.served; reads = h.reads; whole = h.whole }
+framed_done r Session m x mid f h = record { sheet = h.sheet; reading = h.reading; served = h.served; reads = h.reads; whole = h.whole; read_up = h.read_up; between_lines = h.between_lines }
 framed_done r (Problem problem) m x mid f h = record { asked = h.asked; served = h.served; fed = h.fed; front = h.front; whole = h.whole; unread = h.unread }
 
 framed_led : (membership : Membership) (status : ℕ) (m : Left) (x z : Ports) (f : ℕ) → HasLed membership status m x z → HasLed membership status m (record x { frame_faults = f }) (record z { frame_faults = f })
@@ -161,6 +188,7 @@ framed_cause status link x z f old new h = record {
   read_only = h.read_only;
   write_only = h.write_only;
   frame_only = λ s. (refl, (h.frame_only s).1);
+  limit = h.limit;
 }
   where
     link_rose : Rose 0 0 ⊎ Rose 0 link → Rose f f ⊎ Rose 0 link
@@ -190,6 +218,11 @@ not_workers status n (inl h) is (inr o) = omega (arith, h, is, o)
 not_workers status n (inr h) is (inl o) = let low = h.0 in let high = o.1 in omega (arith, low, is, high)
 not_workers status n (inr h) is (inr o) = let high = h.1 in omega (arith, high, is, o)
 
+-- a worker reads nothing
+pub worker_not_read : (status ended : ℕ) → status ≡ ended → IsWorkersStatus ended → (status ≢ 2) × (status ≢ 9)
+worker_not_read status ended same ends =
+    (λ s. not_workers ended 2 ends (sym same ∙ s) (inl (omega (arith), omega (arith))), λ s. not_workers ended 9 ends (sym same ∙ s) (inr (omega (arith))))
+
 -- of a worker
 pub worker_joined : (membership : Membership) (node : ℕ) (m : Left) (x : Ports) (g : ℕ) → membership.role ≡ Worker node → g ≡ x.frame_faults
     → IsWorker membership.localities membership.profile node m → HasJoined membership m.status (Some m) x (record x { frame_faults = g })
@@ -203,6 +236,7 @@ worker_joined membership node m x g role same worker = record {
     read_only = λ s. refl;
     write_only = λ s. refl;
     frame_only = λ s. (same, worker.member.calm s);
+    limit = omega (arith);
   };
   unlinked = λ none. absurd (let no : Some m ≡ None = none in cc);
   was = subst (IsOfRole membership m) (sym role) worker;
@@ -237,6 +271,7 @@ nobody_joined membership status x g h = record {
       read_only = λ s. refl;
       write_only = λ s. refl;
       frame_only = λ s. absurd (s h.0);
+      limit = omega (arith);
     }
     cause (inr h) = record {
       read = λ s. absurd (let is = h.0 in omega (arith, s, is));
@@ -246,6 +281,7 @@ nobody_joined membership status x g h = record {
       read_only = λ s. refl;
       write_only = λ s. refl;
       frame_only = λ s. (h.1, refl);
+      limit = omega (arith);
     }
 
 -- ---- by what was called

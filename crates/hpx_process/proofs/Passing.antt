@@ -75,8 +75,9 @@ passed_shown line es x y z talk h asked text = record {
 
 -- ---- what is broken off
 
-pub stuck_line : (line : List ℕ) (x y : Note) (talk : List Talk) → HasPassed line x y talk → HasStuck line x y OutOfMemory talk []
-stuck_line line x y talk h = record {
+pub stuck_line : (line : List ℕ) (x y : Note) (talk : List Talk) → HasPassed line x y talk → y.asked ≡ false → HasStuck line x y OutOfMemory talk []
+stuck_line line x y talk h unasked = record {
+  breaks = (unasked, refl);
   handed = h.handed;
   over = h.over;
   text = h.text ∙ sym (followed_nothing (followed x.text (concat (prints_of (shown_in talk)))));
@@ -85,6 +86,7 @@ stuck_line line x y talk h = record {
 pub stuck_shown : (line : List ℕ) (es : List Entry) (x y z : Note) (talk : List Talk) → HasPassed line x y talk → z.asked ≡ y.asked
     → WritesFront (concat (prints_of es)) y.text z.text → HasStuck line x z Write talk (Shown es ∷ [])
 stuck_shown line es x y z talk h asked w = record {
+  breaks = (es, refl);
   handed = h.handed ∙ ap (λ b. handed_in talk ++ unasked b line) (sym asked);
   over = subst (λ b. IfOver talk (b ≡ true)) (sym asked) h.over;
   text = subst (λ o. WritesFront (concat (prints_of (shown_in (Shown es ∷ [])))) o z.text) h.text (subst (λ l. WritesFront (concat (prints_of l)) y.text z.text) (sym (append-nil es)) w);

@@ -1,6 +1,6 @@
 -- Prompt after prompt.
 use Rattle.std.specs.Prelude.{◌||◌, IfSome}
-use Rattle.std.proofs.Common.{ℕ, true, false, List, [], ◌∷◌, ◌++◌, ◌≡◌, Option, Some, None, refl, sym, ap, ◌∙◌, subst, append-nil, append_assoc}
+use Rattle.std.proofs.Common.{ℕ, true, false, List, [], ◌∷◌, ◌++◌, ◌≡◌, Option, Some, None, refl, sym, ap, ◌∙◌, subst, append-nil, append_assoc, inl, inr}
 use Rattle.std.proofs.lemmas.List.Concat.{flat_map-append}
 use Rattle.hpx_ports.specs.Told.{followed, preceded}
 use Rattle.app_console.specs.Console.{prompt}
@@ -14,9 +14,9 @@ use Rattle.hpx_top.proofs.LineLemmas.{followed_nothing, followed_twice, long_goe
 use Rattle.hpx_process.specs.declared.sheet.Sheet.{Sheet}
 use Rattle.hpx_process.specs.declared.sheet.Sheet.TheVariants.{Open, Full}
 use Rattle.hpx_process.specs.Asked.{HasTyped, TypesLine, TypesLong, TypesNone}
-use Rattle.hpx_process.specs.Deeds.{AreLong, Asking, Breaks, Does, Ends, Fails, MayLose, Reads, Sitting, Takes, Wrote, lines_at, longs_text, sitting}
+use Rattle.hpx_process.specs.Deeds.{AreLong, AreOver, Asking, Breaks, Does, Ends, Fails, IsQuitNext, LosesNone, MayLose, Reads, Sitting, Takes, Wrote, lines_at, longs_text, sitting}
 use Rattle.hpx_top.specs.Reader.{Reading}
-use Rattle.hpx_process.proofs.Talking.{handed_more, handed_none, reads_more, reads_none}
+use Rattle.hpx_process.proofs.Talking.{handed_more, handed_none, reads_more, reads_none, written_loses}
 
 -- ---- what is typed
 
@@ -36,6 +36,18 @@ none_by_quit all left t = subst (λ o. IfSome o (λ lines. before_quit lines ≡
 pub none_at_end : (all : Option (List (List ℕ))) → IfSome all (λ lines. lines ≡ []) → IfSome all (λ lines. before_quit lines ≡ [])
 none_at_end None h = tt
 none_at_end (Some lines) h = ap before_quit h
+
+pub over_by_quit : (all left : Option (List (List ℕ))) (reading : Reading) → TakesQuit all left → AreOver all reading
+over_by_quit all left reading t = inl (subst (λ o. IfSome o IsQuitNext) (sym t.first) (by_left left))
+  where
+    by_left : (o : Option (List (List ℕ))) → IfSome (preceded (t.line ∷ []) o) IsQuitNext
+    by_left None = tt
+    by_left (Some lines) = t.quit
+
+-- want of memory loses nothing that was read
+pub memory_loses : (reading : Reading) → LosesNone OutOfMemory reading
+memory_loses reading (inl h) = absurd (let no : OutOfMemory ≡ Read = h in cc)
+memory_loses reading (inr h) = absurd (let no : OutOfMemory ≡ InputFull = h in cc)
 
 -- ---- one line more
 
@@ -71,6 +83,8 @@ takes_line text longs x y z at_open h t sheet reads =
       others = lines_at z;
       typed = λ other. handed_more (lines_at x) (lines_at y) (lines_at z) longs (t.line ∷ []) h.typed t.typed;
       left = λ other. rw opens refl;
+      over = λ other full. absurd (let no : Open ≡ Full = sym opens ∙ full in cc);
+      still = λ full. absurd (let no : Open ≡ Full = sym at_open ∙ full in cc);
       reads = reads_more x y z h.reads reads;
     }
 
@@ -81,6 +95,8 @@ ends_lines longs x y z at_open h t full reads = record {
   others = lines_at y;
   typed = λ other. h.typed;
   left = λ other. rw full t.last;
+  over = λ other again. t.over;
+  still = λ again. absurd (let no : Open ≡ Full = sym at_open ∙ again in cc);
   reads = reads_more x y z h.reads reads;
 }
 
@@ -116,17 +132,19 @@ asking_fails fault longs more lost x y z at_open h f =
       text = wrote_behind fault (longs_text longs) (longs_text more ++ prompt) (longs_text (longs ++ more) ++ prompt) x.text y.text z.text (texts_append longs more) h.written f.text;
       typed = λ other. subst (HandsOut (lines_at x) (lines_at z)) (sym (append_assoc longs more lost))
           (handed_more (lines_at x) (lines_at y) (lines_at z) longs (more ++ lost) h.typed (f.typed (λ full. other (sym h.sheet ∙ full))));
+      loses = f.loses;
       reads = reads_more x y z h.reads f.reads;
     }
 
 -- behind a prompt, or where it was to be written
 pub prompt_fails : (fault : LineFault) (lost : List (List ℕ)) (x z : Sitting) → x.sheet ≡ Open → z.sheet ≡ x.sheet → MayLose fault lost → Wrote fault prompt x.text z.text
-    → HandsOut (lines_at x) (lines_at z) lost → Reads x z → Fails fault (Asking [] lost) x z
-prompt_fails fault lost x z at_open sheet may text typed reads = record {
+    → HandsOut (lines_at x) (lines_at z) lost → LosesNone fault z.reading → Reads x z → Fails fault (Asking [] lost) x z
+prompt_fails fault lost x z at_open sheet may text typed loses reads = record {
   sheet = sheet;
   breaks = rw at_open (tt, may);
   text = text;
   typed = λ other. typed;
+  loses = loses;
   reads = reads;
 }
 
@@ -145,6 +163,7 @@ error_fails line x z mid at_open sheet long written w typed reads = record {
     held = w.held ∙ (ap (λ o. followed o w.front) written ∙ followed_twice x.text prompt w.front);
   };
   typed = λ other. typed;
+  loses = written_loses z.reading;
   reads = reads;
 }
   where
@@ -160,7 +179,7 @@ prompt_unwritten fault s reading left taken old new at_open why w =
       [],
       [],
       subst (λ f. Fails f (Asking [] []) x z) (sym why)
-          (prompt_fails Write [] x z at_open refl refl w (handed_none (lines_at x)) (record { next = λ all h. h; counted = refl })),
+          (prompt_fails Write [] x z at_open refl refl w (handed_none (lines_at x)) (written_loses reading) (record { next = λ all h. h; counted = refl; limit = λ few. few })),
     )
 
 pub error_unwritten : (fault : LineFault) (line : List ℕ) (x z : Sitting) (mid : Option (List ℕ)) → x.sheet ≡ Open → z.sheet ≡ x.sheet → fault ≡ Write → is_long line ≡ true

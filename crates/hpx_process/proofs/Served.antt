@@ -1,5 +1,5 @@
 -- What a console left at its desk, and by its slip.
-use Rattle.std.specs.Prelude.{◌+◌, ◌⊎◌, ◌==◌}
+use Rattle.std.specs.Prelude.{◌+◌, ◌≤◌, ◌⊎◌, ◌==◌}
 use Rattle.std.specs.List.{concat, AllByRecursion}
 use Rattle.std.proofs.Common.{ℕ, Bool, true, false, List, [], ◌∷◌, ◌++◌, ◌≡◌, Option, Some, None, map, refl, sym, ap, ◌∙◌, subst, arith, append-nil, append_assoc, inl, inr}
 use Rattle.std.proofs.lemmas.Bool.{eqb-true}
@@ -9,12 +9,13 @@ use Rattle.hpx_journal.specs.Pool.{prints_of}
 use Rattle.hpx_part.specs.Data.{Entry}
 use Rattle.hpx_ports.specs.Told.{followed}
 use Rattle.hpx_value.specs.declared.profile.Profile.{Profile}
-use Rattle.hpx_member.specs.Leads.{HasLineCause, HasServed, status_of_lines}
+use Rattle.app_console.specs.Lines.{IsPiece}
+use Rattle.hpx_member.specs.Leads.{HasLineCause, HasServed, IsNotOfLines, status_of_lines}
 use Rattle.hpx_member.specs.Serves.{Asking, Block, Closing, Done, Feeding, Given, IsAt, IsBlock, Serves, Stage, entries_in, talk_at, talk_in, tried_at}
 use Rattle.hpx_member.specs.Talks.{Only, Talk, Handed, Over, Shown}
 use Rattle.hpx_member.specs.declared.lines.LineFault.{LineFault}
 use Rattle.hpx_member.specs.declared.lines.LineFault.TheVariants.{Read, Write, OutOfMemory, InputFull}
-use Rattle.hpx_top.specs.Ends.{IsReadFrom}
+use Rattle.hpx_top.specs.Ends.{IsReadFrom, IsReadUp}
 use Rattle.hpx_top.specs.Reader.{Reading}
 use Rattle.hpx_top.specs.Session.{WritesFront, lines_fed}
 use Rattle.hpx_top.proofs.EndLemmas.{read_from, read_none}
@@ -27,7 +28,7 @@ use Rattle.hpx_process.specs.Members.{HasMembersCause, HasReckoned, HasSat, IsCo
 use Rattle.hpx_process.specs.Parts.{IsWhole}
 use Rattle.hpx_process.specs.Slips.{HasPassed, HasStuck, IfOver, Note, note, handed_by, handed_in, shown_by, shown_in, unasked}
 use Rattle.hpx_process.proofs.Passing.{prints_append}
-use Rattle.hpx_process.proofs.Texts.{whole}
+use Rattle.hpx_process.proofs.Texts.{read_up, whole}
 
 -- ---- what holds of all that is said
 
@@ -41,17 +42,17 @@ pub served_as : (r : Rules) (status : ℕ) (es : List Entry) (W W' : List Talk �
     → HasServed r status es W B → HasServed r status es W' B'
 served_as r status es W W' B B' f g s = record { stage = s.stage; serves = by s.serves; done = s.done }
   where
-    by : Serves r es (Only W) s.stage ⊎ ((fault : LineFault) × (status ≡ status_of_lines fault) × Serves r es (B fault) s.stage)
-        → Serves r es (Only W') s.stage ⊎ ((fault : LineFault) × (status ≡ status_of_lines fault) × Serves r es (B' fault) s.stage)
-    by (inl h) = inl (serves_as (Only W) (Only W') (λ a b. f a) h)
+    by : (IsNotOfLines status × Serves r es (Only W) s.stage) ⊎ ((fault : LineFault) × (status ≡ status_of_lines fault) × Serves r es (B fault) s.stage)
+        → (IsNotOfLines status × Serves r es (Only W') s.stage) ⊎ ((fault : LineFault) × (status ≡ status_of_lines fault) × Serves r es (B' fault) s.stage)
+    by (inl h) = inl (h.0, serves_as (Only W) (Only W') (λ a b. f a) h.1)
     by (inr h) = inr (h.0, h.1, serves_as (B h.0) (B' h.0) (g h.0) h.2)
 
 pub served_fact : (r : Rules) (status : ℕ) (es : List Entry) (W : List Talk → Type 0) (B : LineFault → List Talk → List Talk → Type 0) (P : Type 0)
     → ((talk : List Talk) → W talk → P) → ((fault : LineFault) (talk tried : List Talk) → B fault talk tried → P) → HasServed r status es W B → P
 served_fact r status es W B P f g s = by s.serves
   where
-    by : Serves r es (Only W) s.stage ⊎ ((fault : LineFault) × (status ≡ status_of_lines fault) × Serves r es (B fault) s.stage) → P
-    by (inl h) = f _ h.talk
+    by : (IsNotOfLines status × Serves r es (Only W) s.stage) ⊎ ((fault : LineFault) × (status ≡ status_of_lines fault) × Serves r es (B fault) s.stage) → P
+    by (inl h) = f _ h.1.talk
     by (inr h) = g h.0 _ _ h.2.talk
 
 no_fault : (fault : LineFault) → 0 ≡ status_of_lines fault → ⊥
@@ -64,8 +65,8 @@ no_fault InputFull h = cc
 pub served_done : (r : Rules) (es : List Entry) (W : List Talk → Type 0) (B : LineFault → List Talk → List Talk → Type 0) → HasServed r 0 es W B → Serves r es (Only W) Done
 served_done r es W B s = by s.serves
   where
-    by : Serves r es (Only W) s.stage ⊎ ((fault : LineFault) × (0 ≡ status_of_lines fault) × Serves r es (B fault) s.stage) → Serves r es (Only W) Done
-    by (inl h) = subst (Serves r es (Only W)) (s.done refl) h
+    by : (IsNotOfLines 0 × Serves r es (Only W) s.stage) ⊎ ((fault : LineFault) × (0 ≡ status_of_lines fault) × Serves r es (B fault) s.stage) → Serves r es (Only W) Done
+    by (inl h) = subst (Serves r es (Only W)) (s.done refl) h.1
     by (inr h) = absurd (no_fault h.0 h.1)
 
 -- ---- at a desk
@@ -76,8 +77,35 @@ sat_whole r status es input x z blank fresh left well served =
     let s = served_done r es (HasTalked x z) (HasBroken x z) (subst (λ n. HasServed r n es (HasTalked x z) (HasBroken x z)) well served) in
     whole r input s.blocks s.rest es x z blank fresh left s.is s.idle s.begin s.at s.talk
 
+pub sat_read_up : (r : Rules) (status : ℕ) (es : List Entry) (input : List ℕ) (x z : Sitting) → x.sheet ≡ Blank → x.reading ≡ record { pending = []; read = 0; ended = false } → x.left ≡ Some input
+    → status ≡ 0 → HasServed r status es (HasTalked x z) (HasBroken x z) → IsReadUp input z.left
+sat_read_up r status es input x z blank fresh left well served =
+    let s = served_done r es (HasTalked x z) (HasBroken x z) (subst (λ n. HasServed r n es (HasTalked x z) (HasBroken x z)) well served) in
+    read_up r input s.blocks s.rest x z blank fresh left s.begin (read_none x.left x.reading fresh) s.talk
+
 pub sat_reads : (r : Rules) (status : ℕ) (es : List Entry) (x z : Sitting) → HasServed r status es (HasTalked x z) (HasBroken x z) → Reads x z
 sat_reads r status es x z served = served_fact r status es (HasTalked x z) (HasBroken x z) (Reads x z) (λ talk h. h.reads) (λ fault talk tried h. h.reads) served
+
+-- at 2 and 9 no whole line that was read is left
+fault_of_two : (status : ℕ) (fault : LineFault) → status ≡ status_of_lines fault → (status ≡ 2) ⊎ (status ≡ 9) → (fault ≡ Read) ⊎ (fault ≡ InputFull)
+fault_of_two status Read is w = inl refl
+fault_of_two status InputFull is w = inr refl
+fault_of_two status Write is (inl e) = absurd (omega (arith, is, e))
+fault_of_two status Write is (inr e) = absurd (omega (arith, is, e))
+fault_of_two status OutOfMemory is (inl e) = absurd (omega (arith, is, e))
+fault_of_two status OutOfMemory is (inr e) = absurd (omega (arith, is, e))
+
+not_of_two : (status : ℕ) → IsNotOfLines status → (status ≡ 2) ⊎ (status ≡ 9) → ⊥
+not_of_two status h (inl e) = h.0 e
+not_of_two status h (inr e) = h.2 e
+
+pub sat_between : (r : Rules) (status : ℕ) (es : List Entry) (x z : Sitting) → HasServed r status es (HasTalked x z) (HasBroken x z) → (status ≡ 2) ⊎ (status ≡ 9) → IsPiece z.reading.pending
+sat_between r status es x z s which = by s.serves
+  where
+    by : (IsNotOfLines status × Serves r es (Only (HasTalked x z)) s.stage) ⊎ ((fault : LineFault) × (status ≡ status_of_lines fault) × Serves r es (HasBroken x z fault) s.stage)
+        → IsPiece z.reading.pending
+    by (inl h) = absurd (not_of_two status h.0 which)
+    by (inr h) = h.2.talk.loses (fault_of_two status h.0 h.1 which)
 
 pub sat_read_from : (input : List ℕ) (x z : Sitting) → x.reading ≡ record { pending = []; read = 0; ended = false } → x.left ≡ Some input → Reads x z → IsReadFrom input z.left x.taken z.taken
 sat_read_from input x z fresh left reads =
@@ -89,6 +117,12 @@ sat_full x z fresh full reads =
     let none : x.reading.read ≡ 0 = ap (λ r. r.read) fresh in
     let all : z.reading.read ≡ 67108864 = eqb-true z.reading.read 67108864 full in
     omega (arith, reads.counted, none, all)
+
+pub sat_limit : (x z : Sitting) → x.reading ≡ record { pending = []; read = 0; ended = false } → Reads x z → z.taken ≤ x.taken + 67108864
+sat_limit x z fresh reads =
+    let none : x.reading.read ≡ 0 = ap (λ r. r.read) fresh in
+    let few = reads.limit (omega (arith, none)) in
+    omega (arith, reads.counted, none, few)
 
 -- ---- by a slip
 
@@ -189,20 +223,20 @@ pub reckoned_fed : (r : Rules) (status : ℕ) (line : List ℕ) (es : List Entry
     → (lines_fed es ≡ []) ⊎ (lines_fed es ≡ line ∷ [])
 reckoned_fed r status line es x z none s = by s.serves
   where
-    by : Serves r es (Only (HasPassed line x z)) s.stage ⊎ ((fault : LineFault) × (status ≡ status_of_lines fault) × Serves r es (HasStuck line x z fault) s.stage)
+    by : (IsNotOfLines status × Serves r es (Only (HasPassed line x z)) s.stage) ⊎ ((fault : LineFault) × (status ≡ status_of_lines fault) × Serves r es (HasStuck line x z fault) s.stage)
         → (lines_fed es ≡ []) ⊎ (lines_fed es ≡ line ∷ [])
-    by (inl h) = fed_is line es z.asked s.stage h.blocks h.rest h.begin h.at h.is (ap (λ b. unasked b line) (sym none) ∙ h.talk.handed)
+    by (inl h) = fed_is line es z.asked s.stage h.1.blocks h.1.rest h.1.begin h.1.at h.1.is (ap (λ b. unasked b line) (sym none) ∙ h.1.talk.handed)
     by (inr h) = fed_is line es z.asked s.stage h.2.blocks h.2.rest h.2.begin h.2.at h.2.is (ap (λ b. unasked b line) (sym none) ∙ h.2.talk.handed)
 
 pub reckoned_front : (r : Rules) (status : ℕ) (line : List ℕ) (es : List Entry) (x z : Note) → HasServed r status es (HasPassed line x z) (HasStuck line x z)
     → WritesFront (concat (prints_of es)) x.text z.text
 reckoned_front r status line es x z s = by s.serves
   where
-    by : Serves r es (Only (HasPassed line x z)) s.stage ⊎ ((fault : LineFault) × (status ≡ status_of_lines fault) × Serves r es (HasStuck line x z fault) s.stage)
+    by : (IsNotOfLines status × Serves r es (Only (HasPassed line x z)) s.stage) ⊎ ((fault : LineFault) × (status ≡ status_of_lines fault) × Serves r es (HasStuck line x z fault) s.stage)
         → WritesFront (concat (prints_of es)) x.text z.text
     by (inl h) =
-        let front = shown_front s.stage h.blocks h.rest h.at in
-        front_of es _ [] (shown_in (tried_at s.stage h.rest) ++ front.0) x.text z.text z.text (front.1 ∙ sym h.is) h.talk.text (nothing_written z.text)
+        let front = shown_front s.stage h.1.blocks h.1.rest h.1.at in
+        front_of es _ [] (shown_in (tried_at s.stage h.1.rest) ++ front.0) x.text z.text z.text (front.1 ∙ sym h.1.is) h.1.talk.text (nothing_written z.text)
     by (inr h) =
         let front = shown_front s.stage h.2.blocks h.2.rest h.2.at in
         front_of es _ (shown_in (tried_at s.stage h.2.rest)) front.0 x.text _ z.text (front.1 ∙ sym h.2.is) refl (wrote_front h.0 _ _ _ h.2.talk.text)
@@ -250,6 +284,8 @@ sat r m x z s sheet first reading blank fresh served =
       served = all;
       reads = λ input left. sat_read_from input (at_first x) end refl left (sat_reads r m.status m.entries (at_first x) end all);
       whole = λ well input left. sat_whole r m.status m.entries input (at_first x) end refl refl left well all;
+      read_up = λ well input left. sat_read_up r m.status m.entries input (at_first x) end refl refl left well all;
+      between_lines = sat_between r m.status m.entries (at_first x) end all;
     }
 
 pub sat_cause : (n : ℕ) (p : Profile) (settles : Bool) (r : Rules) (m : Left) (x z : Ports) (s sheet : Sheet) (first reading : Reading) → s ≡ Blank
@@ -269,6 +305,7 @@ sat_cause n p settles r m x z s sheet first reading blank fresh served console l
       read_only = lines.read_only;
       write_only = lines.write_only;
       frame_only = λ h. (same, console.member.calm h);
+      limit = sat_limit (at_first x) end refl (sat_reads r m.status m.entries (at_first x) end all);
     }
 
 pub reckoned : (r : Rules) (m : Left) (x z : Ports) (given line : List ℕ) (first asked : Bool) → given ≡ line → first ≡ false

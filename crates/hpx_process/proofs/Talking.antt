@@ -1,7 +1,7 @@
 -- Deed after deed.
 use Rattle.std.specs.Prelude.{◌||◌, ◌≢◌, ◌⊎◌}
 use Rattle.std.specs.List.{concat, flat_map, list_any}
-use Rattle.std.proofs.Common.{ℕ, List, [], ◌∷◌, ◌++◌, ◌≡◌, Option, Some, None, refl, sym, ap, ◌∙◌, subst, arith, append-nil}
+use Rattle.std.proofs.Common.{ℕ, List, [], ◌∷◌, ◌++◌, ◌≡◌, Option, Some, None, refl, sym, ap, ◌∙◌, subst, arith, append-nil, inl, inr}
 use Rattle.std.proofs.lemmas.List.{map-append}
 use Rattle.std.proofs.lemmas.List.Concat.{flat_map-append}
 use Rattle.std.proofs.lemmas.List.Folds.{list_any-append}
@@ -11,7 +11,7 @@ use Rattle.hpx_ports.specs.Told.{followed, preceded}
 use Rattle.app_console.specs.Lines.{is_quit, opening}
 use Rattle.hpx_member.specs.Talks.{Talk, Handed, Shown, talk_of}
 use Rattle.hpx_member.specs.declared.lines.LineFault.{LineFault}
-use Rattle.hpx_member.specs.declared.lines.LineFault.TheVariants.{Write, OutOfMemory}
+use Rattle.hpx_member.specs.declared.lines.LineFault.TheVariants.{Read, Write, OutOfMemory, InputFull}
 use Rattle.hpx_top.specs.Reader.{Reading, lines_left}
 use Rattle.hpx_top.specs.Session.{HandsOut, WritesFront}
 use Rattle.hpx_top.specs.Texts.{commands}
@@ -20,7 +20,7 @@ use Rattle.hpx_top.proofs.LineLemmas.{followed_nothing, followed_twice, preceded
 use Rattle.hpx_process.specs.declared.sheet.Sheet.{Sheet}
 use Rattle.hpx_process.specs.declared.sheet.Sheet.TheVariants.{Blank, Open, Full}
 use Rattle.hpx_process.specs.Asked.{IsAskedBy}
-use Rattle.hpx_process.specs.Deeds.{AreLeft, Asking, Breaks, Broken, Deed, Does, Ends, Fails, HasBroken, HasTalked, Opening, Opens, Reads, Rests, Showing, Shows, Sitting, Takes, Turns, TurnsAll, Wrote, broken_lines, broken_text, lines_at, lines_by, sitting, talk_by, text_by, tried_by}
+use Rattle.hpx_process.specs.Deeds.{AreLeft, AreOver, Asking, Breaks, Broken, Deed, Does, Ends, Fails, HasBroken, HasTalked, LosesNone, Opening, Opens, Reads, Rests, Showing, Shows, Sitting, Takes, Turns, TurnsAll, Wrote, broken_lines, broken_text, lines_at, lines_by, sitting, talk_by, text_by, tried_by}
 
 -- ---- parts of it
 
@@ -29,12 +29,13 @@ turns_more a [] m d n t e = (n, subst (λ s. Turns s d n) t e, refl)
 turns_more a (x ∷ ds) m d n t e = (t.0, t.1, turns_more t.0 ds m d n t.2 e)
 
 pub reads_none : (x : Sitting) → Reads x x
-reads_none x = record { next = λ all h. h; counted = refl }
+reads_none x = record { next = λ all h. h; counted = refl; limit = λ few. few }
 
 pub reads_more : (x y z : Sitting) → Reads x y → Reads y z → Reads x z
 reads_more x y z r s = record {
   next = λ all h. s.next all (r.next all h);
   counted = omega (arith, r.counted, s.counted);
+  limit = λ few. s.limit (r.limit few);
 }
 
 pub handed_none : (all : Option (List (List ℕ))) → HandsOut all all []
@@ -63,6 +64,7 @@ talked_none x blank = record {
   others = lines_at x;
   typed = handed_none (lines_at x);
   left = subst (λ s. AreLeft s (lines_at x) (lines_at x)) (sym blank) refl;
+  over = λ full. absurd (let no : Blank ≡ Full = sym blank ∙ full in cc);
   reads = reads_none x;
 }
 
@@ -75,25 +77,36 @@ typed_on_full (Takes longs line) z t = absurd t
 typed_on_full (Ends longs) z t = absurd t
 
 pub lines_more : (s : Sheet) (d : Deed) (z : Sheet) (all others mid later left : Option (List (List ℕ))) (xs : List (List ℕ))
-    → Turns s d z → HandsOut all others xs → AreLeft s others mid → (s ≢ Full → HandsOut mid later (lines_by d)) → (s ≢ Full → AreLeft z later left)
-    → (o : Option (List (List ℕ))) × HandsOut all o (xs ++ lines_by d) × AreLeft z o left
-lines_more Full d z all others mid later left xs t h a typed behind =
+    → (before after : Reading) → Turns s d z → HandsOut all others xs → AreLeft s others mid → (s ≢ Full → HandsOut mid later (lines_by d)) → (s ≢ Full → AreLeft z later left)
+    → (s ≡ Full → AreOver others before) → (s ≢ Full → z ≡ Full → AreOver later after) → (s ≡ Full → after ≡ before)
+    → (o : Option (List (List ℕ))) × HandsOut all o (xs ++ lines_by d) × AreLeft z o left × (z ≡ Full → AreOver o after)
+lines_more Full d z all others mid later left xs before after t h a typed behind over ends still =
     let full = typed_on_full d z t in (
       others,
       subst (HandsOut all others) (sym (ap (λ ys. xs ++ ys) full.0 ∙ append-nil xs)) h,
       subst (λ s. AreLeft s others left) (sym full.1) a,
+      λ again. subst (AreOver others) (sym (still refl)) (over refl),
     )
-lines_more Blank d z all others mid later left xs t h a typed behind =
-    (later, handed_more all others later xs (lines_by d) h (subst (λ o. HandsOut o later (lines_by d)) (sym a) (typed (λ e. let no : Blank ≡ Full = e in cc))), behind (λ e. let no : Blank ≡ Full = e in cc))
-lines_more Open d z all others mid later left xs t h a typed behind =
-    (later, handed_more all others later xs (lines_by d) h (subst (λ o. HandsOut o later (lines_by d)) (sym a) (typed (λ e. let no : Open ≡ Full = e in cc))), behind (λ e. let no : Open ≡ Full = e in cc))
+lines_more Blank d z all others mid later left xs before after t h a typed behind over ends still = (
+  later,
+  handed_more all others later xs (lines_by d) h (subst (λ o. HandsOut o later (lines_by d)) (sym a) (typed (λ e. let no : Blank ≡ Full = e in cc))),
+  behind (λ e. let no : Blank ≡ Full = e in cc),
+  ends (λ e. let no : Blank ≡ Full = e in cc),
+)
+lines_more Open d z all others mid later left xs before after t h a typed behind over ends still = (
+  later,
+  handed_more all others later xs (lines_by d) h (subst (λ o. HandsOut o later (lines_by d)) (sym a) (typed (λ e. let no : Open ≡ Full = e in cc))),
+  behind (λ e. let no : Open ≡ Full = e in cc),
+  ends (λ e. let no : Open ≡ Full = e in cc),
+)
 
 last_by : {T : Type 0} (f : Deed → List T) (ds : List Deed) (d : Deed) → flat_map f (ds ++ d ∷ []) ≡ flat_map f ds ++ f d
 last_by f ds d = flat_map-append f ds (d ∷ []) ∙ ap (λ t. flat_map f ds ++ t) (append-nil (f d))
 
 pub talked_more : (deed : Deed) (x y z : Sitting) (talk : List Talk) → HasTalked x y talk → Does deed y z → HasTalked x z (talk ++ talk_by deed ∷ [])
 talked_more deed x y z talk t d =
-    let lines = lines_more y.sheet deed z.sheet (lines_at x) t.others (lines_at y) d.others (lines_at z) (flat_map lines_by t.deeds) d.turns t.typed t.left d.typed d.left in
+    let lines = lines_more y.sheet deed z.sheet (lines_at x) t.others (lines_at y) d.others (lines_at z) (flat_map lines_by t.deeds) y.reading z.reading d.turns t.typed t.left d.typed d.left
+    t.over d.over d.still in
     record {
       deeds = t.deeds ++ deed ∷ [];
       said = ap (λ l. l ++ talk_by deed ∷ []) t.said ∙ sym (map-append talk_by t.deeds (deed ∷ []));
@@ -102,6 +115,7 @@ talked_more deed x y z talk t d =
       others = lines.0;
       typed = subst (HandsOut (lines_at x) lines.0) (sym (last_by lines_by t.deeds deed)) lines.1;
       left = lines.2;
+      over = lines.3;
       reads = reads_more x y z t.reads d.reads;
     }
 
@@ -137,6 +151,7 @@ talked_broken fault broken x y z talk t f =
       others = lines.0;
       typed = lines.1;
       left = subst (λ s. AreLeft s lines.0 (lines_at z)) (sym f.sheet) lines.2;
+      loses = f.loses;
       reads = reads_more x y z t.reads f.reads;
     }
 
@@ -155,7 +170,9 @@ opens_does s reading left taken old new blank h = record {
   others = lines_left reading left;
   typed = λ other. handed_none (lines_left reading left);
   left = λ other. refl;
-  reads = record { next = λ all h. h; counted = refl };
+  over = λ other full. absurd (let no : Open ≡ Full = full in cc);
+  still = λ full. refl;
+  reads = record { next = λ all h. h; counted = refl; limit = λ few. few };
 }
 
 pub rests_does : (s : Sheet) (reading : Reading) (left : Option (List ℕ)) (taken : ℕ) (text : Option (List ℕ)) → s ≡ Full
@@ -166,7 +183,9 @@ rests_does s reading left taken text full = record {
   others = None;
   typed = λ other. absurd (other full);
   left = λ other. absurd (other full);
-  reads = record { next = λ all h. h; counted = refl };
+  over = λ other again. absurd (other full);
+  still = λ again. refl;
+  reads = record { next = λ all h. h; counted = refl; limit = λ few. few };
 }
 
 shows_turn : (s : Sheet) (es : List Entry) → Turns s (Shows es) s
@@ -182,8 +201,21 @@ shows_does es s reading left taken old new h = record {
   others = lines_left reading left;
   typed = λ other. handed_none (lines_left reading left);
   left = λ other. same_left s (lines_left reading left) other;
-  reads = record { next = λ all h. h; counted = refl };
+  over = λ other full. absurd (other full);
+  still = λ full. refl;
+  reads = record { next = λ all h. h; counted = refl; limit = λ few. few };
 }
+
+-- a write, and want of memory, lose nothing that was read
+pub written_loses : (reading : Reading) → LosesNone Write reading
+written_loses reading (inl h) = absurd (let no : Write ≡ Read = h in cc)
+written_loses reading (inr h) = absurd (let no : Write ≡ InputFull = h in cc)
+
+opening_loses : (fault : LineFault) (reading : Reading) → (fault ≡ Write) ⊎ (fault ≡ OutOfMemory) → LosesNone fault reading
+opening_loses fault reading (inl w) (inl h) = absurd (let no : Write ≡ Read = sym w ∙ h in cc)
+opening_loses fault reading (inl w) (inr h) = absurd (let no : Write ≡ InputFull = sym w ∙ h in cc)
+opening_loses fault reading (inr w) (inl h) = absurd (let no : OutOfMemory ≡ Read = sym w ∙ h in cc)
+opening_loses fault reading (inr w) (inr h) = absurd (let no : OutOfMemory ≡ InputFull = sym w ∙ h in cc)
 
 shows_break : (s : Sheet) (es : List Entry) → Breaks Write s (Showing es)
 shows_break Blank es = refl
@@ -197,7 +229,8 @@ shows_fails es s reading left taken old new w = record {
   breaks = shows_break s es;
   text = w;
   typed = λ other. handed_none (lines_left reading left);
-  reads = record { next = λ all h. h; counted = refl };
+  loses = written_loses reading;
+  reads = record { next = λ all h. h; counted = refl; limit = λ few. few };
 }
 
 pub shows_broken : (fault : LineFault) (es : List Entry) (s : Sheet) (reading : Reading) (left : Option (List ℕ)) (taken : ℕ) (old new : Option (List ℕ)) (x : Sitting) (talk : List Talk)
@@ -215,7 +248,8 @@ opening_fails fault s reading left taken old new blank why w = record {
   breaks = subst (λ a. Breaks fault a Opening) (sym blank) why;
   text = w;
   typed = λ other. handed_none (lines_left reading left);
-  reads = record { next = λ all h. h; counted = refl };
+  loses = opening_loses fault reading why;
+  reads = record { next = λ all h. h; counted = refl; limit = λ few. few };
 }
 
 -- what is answered is what the deed says

@@ -1,26 +1,29 @@
 -- The whole text of a session, by its deeds and by the blocks of its journal.
-use Rattle.std.specs.Prelude.{IfSome, if◌then◌else◌}
-use Rattle.std.specs.List.{concat, flat_map, slice_split, AllByRecursion}
-use Rattle.std.proofs.Common.{ℕ, false, List, [], ◌∷◌, ◌++◌, ◌≡◌, Option, Some, map, refl, sym, ap, ◌∙◌, subst, append-nil, append_assoc}
+use Rattle.std.specs.Prelude.{IfSome, ◌<◌, ◌||◌, ◌⊎◌, length, if◌then◌else◌}
+use Rattle.std.specs.List.{concat, flat_map, list_any, slice_split, AllByRecursion}
+use Rattle.std.proofs.Common.{ℕ, Bool, true, false, List, [], ◌∷◌, ◌++◌, ◌≡◌, Option, Some, None, map, refl, sym, ap, ◌∙◌, subst, arith, append-nil, append_assoc, inl, inr}
 use Rattle.std.proofs.lemmas.List.{map-append}
 use Rattle.std.proofs.lemmas.List.Concat.{flat_map-append}
+use Rattle.std.proofs.lemmas.List.Folds.{list_any-append}
 use Rattle.hpx_journal.specs.Entries.{Rules}
 use Rattle.hpx_journal.specs.Pool.{prints_of}
 use Rattle.hpx_journal.specs.Sessions.{BeginsWith, FeedsNothing}
 use Rattle.hpx_part.specs.Data.{Entry}
 use Rattle.hpx_ports.specs.Told.{followed}
 use Rattle.app_console.specs.Console.{prompt}
-use Rattle.app_console.specs.Lines.{before_quit, is_long, is_newline, lines_in, lines_of, opening}
+use Rattle.app_console.specs.Lines.{before_quit, is_long, is_newline, is_quit, lines_in, lines_of, opening}
 use Rattle.app_console.specs.Text.{too_long}
 use Rattle.hpx_member.specs.Serves.{IsIdleBehind, Block, IsBlock, entries_in, talk_in}
 use Rattle.hpx_member.specs.Talks.{Handed, Over, Shown}
+use Rattle.hpx_top.specs.Ends.{IsReadUp}
+use Rattle.hpx_top.specs.Reader.{HasRead, Reading}
 use Rattle.hpx_top.specs.Session.{HandsOut}
 use Rattle.hpx_top.specs.Texts.{commands}
 use Rattle.hpx_top.specs.declared.consoles.UserConsole.TheVariants.{Accumulator}
 use Rattle.hpx_top.proofs.LineLemmas.{before_quit_append, told_rest}
 use Rattle.hpx_process.specs.declared.sheet.Sheet.{Sheet}
 use Rattle.hpx_process.specs.declared.sheet.Sheet.TheVariants.{Blank, Open, Full}
-use Rattle.hpx_process.specs.Deeds.{AreLeft, AreLong, Deed, Ends, HasTalked, Opens, Rests, Shows, Sitting, Takes, TurnsAll, lines_at, lines_by, longs_text, talk_by, text_by}
+use Rattle.hpx_process.specs.Deeds.{AreLeft, AreLong, AreOver, Deed, Ends, HasTalked, IsQuitNext, Opens, Rests, Shows, Sitting, Takes, TurnsAll, lines_at, lines_by, longs_text, talk_by, text_by}
 use Rattle.hpx_process.proofs.Talking.{turn_shown}
 use Rattle.hpx_process.specs.Parts.{IsPart, IsPartBy, IsWhole, Part, part_text}
 
@@ -223,3 +226,39 @@ whole r input blocks rest es x z blank fresh left is idle all unfed talked =
       unfed = unfed;
       text = talked.text ∙ ap (followed x.text) (ap (λ d. flat_map text_by d) b.is ∙ ap (λ t. commands Accumulator ++ (concat (prints_of b.first) ++ t)) p.texts);
     }
+
+-- ---- where it was read up to
+
+quit_in : (lines rest : List (List ℕ)) → IsQuitNext rest → list_any is_quit (lines ++ rest) ≡ true
+quit_in lines [] h = absurd h
+quit_in lines (line ∷ rest) h = list_any-append is_quit lines (line ∷ rest) ∙ (ap (λ b. list_any is_quit lines || (b || list_any is_quit rest)) h ∙ or_true (list_any is_quit lines))
+  where
+    or_true : (b : Bool) → b || true ≡ true
+    or_true true = refl
+    or_true false = refl
+
+-- a reader that has met the end has read all
+read_all : (input : List ℕ) (all left : Option (List ℕ)) (reading : Reading) → all ≡ Some input → HasRead all reading left → reading.ended ≡ true → (left ≡ Some []) × (length input < 67108864)
+read_all input all None reading is h ended = absurd (let no : Some input ≡ None = sym is ∙ h.next in cc)
+read_all input all (Some rest) reading is h ended =
+    let none : rest ≡ [] = h.at_end ended in
+    let same : Some input ≡ Some (h.front ++ rest) = sym is ∙ h.next in
+    let front : input ≡ h.front ++ rest = (let e = same in cc) in
+    let count : length input ≡ reading.read = ap length front ∙ (ap (λ r. length (h.front ++ r)) none ∙ (ap length (append-nil h.front) ∙ h.count)) in
+    let below = h.below ended in
+    (ap Some none, omega (arith, count, below))
+
+pub read_up : (r : Rules) (input : List ℕ) (blocks : List Block) (rest : List Entry) (x z : Sitting) → x.sheet ≡ Blank → x.reading ≡ record { pending = []; read = 0; ended = false } → x.left ≡ Some input
+    → AllByRecursion IsBlock blocks → HasRead x.left x.reading x.left → HasTalked x z (talk_in blocks ++ (Over ∷ (Shown rest ∷ []))) → IsReadUp input z.left
+read_up r input blocks rest x z blank fresh left all first talked =
+    let b = begun blocks rest talked.deeds z.sheet talked.said (subst (λ s. TurnsAll s talked.deeds z.sheet) blank talked.turns) all in
+    by (talked.over b.parts.full)
+  where
+    input_is : lines_at x ≡ Some (lines_in (slice_split is_newline input))
+    input_is = rw (fresh, left) refl
+
+    by : AreOver talked.others z.reading → IsReadUp input z.left
+    by (inl quit) =
+        let told = told_rest (lines_in (slice_split is_newline input)) (flat_map lines_by talked.deeds) talked.others (sym input_is ∙ talked.typed.first) in
+        inl (ap (list_any is_quit) told.2 ∙ quit_in (flat_map lines_by talked.deeds) told.0 (subst (λ o. IfSome o IsQuitNext) told.1 quit))
+    by (inr ended) = inr (read_all input x.left z.left z.reading left (talked.reads.next x.left first) ended)

@@ -7,7 +7,7 @@ use Rattle.app_console.specs.Text.{too_long}
 use Rattle.hpx_top.specs.Session.{HandsOut}
 use Rattle.hpx_process.specs.declared.desk.Answer.{Answer}
 use Rattle.hpx_process.specs.declared.desk.Answer.TheVariants.{Line, Long, Over}
-use Rattle.hpx_process.specs.Deeds.{AreLong, Deed, Ends, Reads, Sitting, Takes, lines_at, longs_text}
+use Rattle.hpx_process.specs.Deeds.{AreLong, AreOver, Deed, Ends, Reads, Sitting, Takes, lines_at, longs_text}
 
 -- a line was typed that is not too long
 pub record TypesLine (text : List ℕ) (x z : Sitting) : Type 0 where
@@ -27,6 +27,7 @@ pub record TypesLong (x z : Sitting) : Type 0 where
 -- or there are no more
 pub record TypesNone (x z : Sitting) : Type 0 where
   pub last : IfSome (lines_at x) (λ lines. before_quit lines ≡ [])
+  pub over : AreOver (lines_at x) z.reading
   pub written : z.text ≡ followed x.text prompt
 
 abbrev pub TypesBy : Answer → Sitting → Sitting → Type 0

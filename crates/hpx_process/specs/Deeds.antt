@@ -5,11 +5,11 @@ use Rattle.hpx_journal.specs.Pool.{prints_of}
 use Rattle.hpx_part.specs.Data.{Entry}
 use Rattle.hpx_ports.specs.Told.{followed}
 use Rattle.app_console.specs.Console.{prompt}
-use Rattle.app_console.specs.Lines.{is_long, before_quit, opening}
+use Rattle.app_console.specs.Lines.{IsPiece, is_long, is_quit, before_quit, opening}
 use Rattle.app_console.specs.Text.{too_long}
 use Rattle.hpx_member.specs.Talks.{Talk, Handed, Over, Shown}
 use Rattle.hpx_member.specs.declared.lines.LineFault.{LineFault}
-use Rattle.hpx_member.specs.declared.lines.LineFault.TheVariants.{Write, OutOfMemory}
+use Rattle.hpx_member.specs.declared.lines.LineFault.TheVariants.{Read, Write, OutOfMemory, InputFull}
 use Rattle.hpx_top.specs.Reader.{Reading, HasRead, lines_left}
 use Rattle.hpx_top.specs.Session.{HandsOut, WritesFront}
 use Rattle.hpx_top.specs.Texts.{commands}
@@ -88,15 +88,24 @@ sitting sheet reading left taken text = record { sheet = sheet; reading = readin
 abbrev pub lines_at : Sitting → Option (List (List ℕ))
 lines_at x = lines_left x.reading x.left
 
--- what was read are the next bytes, and they were counted
+-- what was read are the next bytes, they were counted, and they are no more than may be read
 pub record Reads (x z : Sitting) : Type 0 where
   pub next : (all : Option (List ℕ)) → HasRead all x.reading x.left → HasRead all z.reading z.left
   pub counted : z.reading.read + x.taken ≡ x.reading.read + z.taken
+  pub limit : x.reading.read ≤ 67108864 → z.reading.read ≤ 67108864
 
 -- behind the lines that were typed so many are left, or on a full sheet none before a `quit`
 abbrev pub AreLeft : Sheet → Option (List (List ℕ)) → Option (List (List ℕ)) → Type 0
 AreLeft Full others left = IfSome others (λ lines. before_quit lines ≡ [])
 AreLeft _ others left = others ≡ left
+
+-- the lines are over: the next of those that are left is a `quit`, or a read has met the end
+abbrev pub IsQuitNext : List (List ℕ) → Type 0
+IsQuitNext [] = ⊥
+IsQuitNext (line ∷ lines) = is_quit line ≡ true
+
+abbrev pub AreOver : Option (List (List ℕ)) → Reading → Type 0
+AreOver others reading = IfSome others IsQuitNext ⊎ (reading.ended ≡ true)
 
 -- one deed was done
 pub record Does (deed : Deed) (x z : Sitting) : Type 0 where
@@ -105,6 +114,8 @@ pub record Does (deed : Deed) (x z : Sitting) : Type 0 where
   pub others : Option (List (List ℕ))
   pub typed : x.sheet ≢ Full → HandsOut (lines_at x) others (lines_by deed)
   pub left : x.sheet ≢ Full → AreLeft z.sheet others (lines_at z)
+  pub over : x.sheet ≢ Full → z.sheet ≡ Full → AreOver others z.reading
+  pub still : x.sheet ≡ Full → z.reading ≡ x.reading
   pub reads : Reads x z
 
 -- these deeds were done, and this was said by them
@@ -116,6 +127,7 @@ pub record HasTalked (x z : Sitting) (talk : List Talk) : Type 0 where
   pub others : Option (List (List ℕ))
   pub typed : HandsOut (lines_at x) others (flat_map lines_by deeds)
   pub left : AreLeft z.sheet others (lines_at z)
+  pub over : z.sheet ≡ Full → AreOver others z.reading
   pub reads : Reads x z
 
 -- ---- what was broken off
@@ -160,12 +172,17 @@ abbrev pub Wrote : LineFault → List ℕ → Option (List ℕ) → Option (List
 Wrote Write bytes before now = WritesFront bytes before now
 Wrote _ bytes before now = now ≡ followed before bytes
 
+-- where no line could be read, or no more may be, no whole line that was read is left
+abbrev pub LosesNone : LineFault → Reading → Type 0
+LosesNone fault reading = (fault ≡ Read) ⊎ (fault ≡ InputFull) → IsPiece reading.pending
+
 -- one deed was broken off
 pub record Fails (fault : LineFault) (broken : Broken) (x z : Sitting) : Type 0 where
   pub sheet : z.sheet ≡ x.sheet
   pub breaks : Breaks fault x.sheet broken
   pub text : Wrote fault (broken_text broken) x.text z.text
   pub typed : x.sheet ≢ Full → HandsOut (lines_at x) (lines_at z) (broken_lines broken)
+  pub loses : LosesNone fault z.reading
   pub reads : Reads x z
 
 -- behind these deeds, by which this was said, another was broken off, by which that was to be said
@@ -180,4 +197,5 @@ pub record HasBroken (x z : Sitting) (fault : LineFault) (talk tried : List Talk
   pub others : Option (List (List ℕ))
   pub typed : HandsOut (lines_at x) others (flat_map lines_by deeds ++ broken_lines broken)
   pub left : AreLeft z.sheet others (lines_at z)
+  pub loses : LosesNone fault z.reading
   pub reads : Reads x z

@@ -1,5 +1,5 @@
 -- What a process leaves that was one locality of several.
-use Rattle.std.specs.Prelude.{ℕ, Bool, false, Option, Some, None, IfSome, List, [], ◌∷◌, ◌≡◌, ◌≢◌, ◌+◌, ◌⊎◌}
+use Rattle.std.specs.Prelude.{ℕ, Bool, false, Option, Some, None, IfSome, List, [], ◌∷◌, ◌≡◌, ◌≢◌, ◌≤◌, ◌+◌, ◌⊎◌}
 use Rattle.std.specs.List.{concat, AllByRecursion}
 use Rattle.hpx_value.specs.declared.profile.Profile.{Profile}
 use Rattle.hpx_journal.specs.Entries.{Rules}
@@ -14,6 +14,7 @@ use Rattle.hpx_ports.specs.Told.{followed}
 use Rattle.hpx_ports.specs.declared.link.Latest.{Latest}
 use Rattle.hpx_ports.specs.declared.link.Latest.TheVariants.{Got}
 use Rattle.hpx_ports.specs.declared.link.Post.{Post}
+use Rattle.app_console.specs.Lines.{IsPiece}
 use Rattle.hpx_member.specs.Bodies.{IsOutOfPlace, end_body}
 use Rattle.hpx_member.specs.Leads.{HasAsked, HasServed, IsConsolesStatus, IsNoFrame}
 use Rattle.hpx_member.specs.Seats.{IsNodeAt, IsPart, Tells}
@@ -22,7 +23,7 @@ use Rattle.hpx_member.specs.Stops.{IsFaultBy, IsWorkersStatus, status_of_fault}
 use Rattle.hpx_member.specs.Words.{Heeds}
 use Rattle.hpx_member.specs.declared.stop.MemberFault.{MemberFault}
 use Rattle.hpx_top.specs.Acts.{act_of}
-use Rattle.hpx_top.specs.Ends.{IsReadFrom}
+use Rattle.hpx_top.specs.Ends.{IsReadFrom, IsReadUp}
 use Rattle.hpx_top.specs.Printed.{HasCounted}
 use Rattle.hpx_top.specs.Reader.{Reading}
 use Rattle.hpx_top.specs.Runs.{Ports}
@@ -90,7 +91,8 @@ IsOfRole membership m (Worker node) = IsWorker membership.localities membership.
 
 -- ---- what a console reads and writes
 
--- It sat at a desk: its lines were handed out there, and its entries shown. Where it ended well, that is the whole text of the input.
+-- It sat at a desk: its lines were handed out there, and its entries shown. Where it ended well, that is the whole text of the input, which was read up
+-- to its end or to `quit`. Where no line could be read, or no more may be, no whole line that was read is left.
 pub record HasSat (r : Rules) (m : Left) (x z : Ports) : Type 0 where
   pub sheet : Sheet
   pub reading : Reading
@@ -99,6 +101,8 @@ pub record HasSat (r : Rules) (m : Left) (x z : Ports) : Type 0 where
       (HasBroken (sitting Blank (record { pending = []; read = 0; ended = false }) x.left x.taken x.text) (sitting sheet reading z.left z.taken z.text))
   pub reads : (input : List ℕ) → x.left ≡ Some input → IsReadFrom input z.left x.taken z.taken
   pub whole : m.status ≡ 0 → (input : List ℕ) → x.left ≡ Some input → IsWhole r input m.entries x.text z.text
+  pub read_up : m.status ≡ 0 → (input : List ℕ) → x.left ≡ Some input → IsReadUp input z.left
+  pub between_lines : (m.status ≡ 2) ⊎ (m.status ≡ 9) → IsPiece reading.pending
 
 -- It was given a slip with this line: that was fed, or nothing, and the prints or a front of them were written, where it ended well all. It read
 -- nothing.
@@ -132,8 +136,8 @@ HasWritten membership status m x z (Worker node) = (status ≡ m.status) × IsSi
 
 -- ---- the whole
 
--- Each status has its cause, and no port failed but that which the status names: 4 is of what connects the members, or of the link, which had not
--- failed before.
+-- Each status has its cause, no port failed but that which the status names, and at most 67,108,864 bytes were read: 4 is of what connects the members,
+-- or of the link, which had not failed before.
 pub record HasMembersCause (status link : ℕ) (x z : Ports) : Type 0 where
   pub read : status ≡ 2 → Rose x.read_faults z.read_faults
   pub write : status ≡ 3 → Rose x.write_faults z.write_faults
@@ -142,6 +146,7 @@ pub record HasMembersCause (status link : ℕ) (x z : Ports) : Type 0 where
   pub read_only : status ≢ 2 → z.read_faults ≡ x.read_faults
   pub write_only : status ≢ 3 → z.write_faults ≡ x.write_faults
   pub frame_only : status ≢ 4 → (z.frame_faults ≡ x.frame_faults) × (link ≡ 0)
+  pub limit : z.taken ≤ x.taken + 67108864
 
 -- how often the link failed
 abbrev pub faults_in : Option Left → ℕ

@@ -1,6 +1,7 @@
 -- The membership that words ask for.
 use Rattle.std.specs.Prelude.{ℕ, Bool, not, ◌&&◌, ◌||◌, nat_le, nat_lt, List, Option, Some, None, option_map, option_and_then, ◌≤◌, ◌<◌, if◌then◌else◌}
 use Rattle.hpx_value.specs.Profiles.{IsValid}
+use Rattle.hpx_ports.specs.declared.link.Seat.{Seat}
 use Rattle.hpx_options.specs.Meanings.{Reading, Means, BadWord, reading_of}
 use Rattle.hpx_options.specs.declared.settings.Mode.{Mode}
 use Rattle.hpx_options.specs.declared.settings.Mode.TheVariants as As
@@ -23,6 +24,10 @@ use Rattle.hpx_process.specs.declared.problem.Problem.TheVariants.{Number, Ring}
 abbrev pub node_of : Role → ℕ
 node_of (Console settles) = 0
 node_of (Worker node) = node
+
+-- the seat that it is connected at
+abbrev pub seat_of : Membership → Seat
+seat_of m = record { node = node_of m.role; n = m.localities; port = m.port }
 
 -- the line that is fed for a problem
 abbrev pub problem_line : Problems.Problem → List ℕ

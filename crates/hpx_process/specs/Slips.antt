@@ -6,6 +6,7 @@ use Rattle.hpx_part.specs.Data.{Entry}
 use Rattle.hpx_ports.specs.Told.{followed}
 use Rattle.hpx_member.specs.Talks.{Talk, Handed, Over, Shown}
 use Rattle.hpx_member.specs.declared.lines.LineFault.{LineFault}
+use Rattle.hpx_member.specs.declared.lines.LineFault.TheVariants.{OutOfMemory, Write}
 use Rattle.hpx_process.specs.Deeds.{Wrote}
 
 -- the lines that were handed out
@@ -49,8 +50,15 @@ pub record HasPassed (line : List ℕ) (x z : Note) (talk : List Talk) : Type 0 
   pub over : IfOver talk (z.asked ≡ true)
   pub text : z.text ≡ followed x.text (concat (prints_of (shown_in talk)))
 
--- this was said, and a fault broke off what was to be shown
+-- it is broken off where memory is wanted for the line, which is not handed out then, or where what is shown is not written
+abbrev pub Sticks : LineFault → Bool → List Talk → Type 0
+Sticks OutOfMemory asked tried = (asked ≡ false) × (tried ≡ [])
+Sticks Write asked tried = (entries : List Entry) × (tried ≡ Shown entries ∷ [])
+Sticks _ asked tried = ⊥
+
+-- this was said, and a fault broke off what was to be handed out or shown
 pub record HasStuck (line : List ℕ) (x z : Note) (fault : LineFault) (talk tried : List Talk) : Type 0 where
+  pub breaks : Sticks fault z.asked tried
   pub handed : unasked x.asked line ≡ handed_in talk ++ unasked z.asked line
   pub over : IfOver talk (z.asked ≡ true)
   pub text : Wrote fault (concat (prints_of (shown_in tried))) (followed x.text (concat (prints_of (shown_in talk)))) z.text

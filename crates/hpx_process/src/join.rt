@@ -2,6 +2,7 @@
 ghost use Rattle.std.specs.Prelude.{◌≡◌, ◌≢◌, ◌≤◌, ◌<◌, ◌⊎◌, ◌==◌, [], false, ℕ, List, Some, None, option_map};
 ghost use Rattle.hpx_value.specs.Profiles.{IsValid};
 ghost use Rattle.hpx_ports.specs.Faults.{Rose};
+ghost use Rattle.hpx_ports.specs.Links.{asked_for};
 ghost use Rattle.hpx_ports.specs.declared.link.Post.{Post};
 ghost use Rattle.hpx_member.specs.Leads.{HasLineCause, HasServed, IsConsolesStatus};
 ghost use Rattle.hpx_steps.specs.Rest.{rules_of};
@@ -10,7 +11,7 @@ ghost use Rattle.hpx_top.specs.Printed.{HasCounted};
 ghost use Rattle.hpx_top.specs.Runs.{ports_of};
 ghost use Rattle.hpx_process.specs.Members.{HasJoined, HasLed, HasMembersCause, HasReckoned, HasSat, IsConsole, IsWorker, left};
 ghost use Rattle.hpx_process.specs.Deeds.{HasBroken, HasTalked, sitting};
-ghost use Rattle.hpx_process.specs.Memberships.{IsMembership, problem_line};
+ghost use Rattle.hpx_process.specs.Memberships.{IsMembership, problem_line, seat_of};
 ghost use Rattle.hpx_process.specs.Slips.{HasPassed, HasStuck, note};
 
 use crate::desk::Desk;
@@ -22,7 +23,7 @@ use hpx_counters::counter::Counter;
 use hpx_member::console::console;
 use hpx_member::end::MemberEnd;
 use hpx_member::worker::worker;
-use hpx_ports::link::{Link, LinkFault, Opener};
+use hpx_ports::link::{Link, LinkFault, Opener, Seat};
 use hpx_ports::sink::Sink;
 use hpx_ports::source::Source;
 use hpx_top::acts::AllActs;
@@ -235,6 +236,7 @@ fn lead<R: Wait, L: Link + Drop, S: Source, K: Sink>(
         HasMembersCause result.0 (L.faults result.1.link) x z }
     ensures ends { IsConsolesStatus result.0 }
     ensures unread { (problem : Problem) → membership.now.errand ≡ Errand.Problem problem → source.new ≡ source.old }
+    ensures no_read { (problem : Problem) → membership.now.errand ≡ Errand.Problem problem → (result.0 ≢ 2) × (result.0 ≢ 9) }
 {
     let member = match membership.errand {
         Errand::Session => serve(rt, alloc, membership, settles, link, source, sink),
@@ -265,10 +267,16 @@ pub fn join<R: Wait, P: Opener, S: Source, K: Sink>(
         (option_map (λ m. left m.status (option_map (λ n. n.tables) m.node) m.journal.entries m.fault (P.Link.trace m.link) (P.Link.latest m.link) (P.Link.faults m.link)) result.member) x z }
     ensures worker { (node : ℕ) → membership.now.role ≡ Role.Worker node → (source.new ≡ source.old) × (sink.new ≡ sink.old) }
     ensures unread { (problem : Problem) → membership.now.errand ≡ Errand.Problem problem → source.new ≡ source.old }
+    ensures no_read { (problem : Problem) → membership.now.errand ≡ Errand.Problem problem → (result.status ≢ 2) × (result.status ≢ 9) }
+    ensures asked { P.asked opener.new ≡ asked_for (seat_of membership.now) (P.asked opener.old) }
     ensures unlinked { result.member ≡ None → (source.new ≡ source.old) × (sink.new ≡ sink.old) }
 {
-    let node = membership.role.node();
-    let link = match opener.connect(node, membership.localities, membership.port) {
+    let seat = Seat {
+        node: membership.role.node(),
+        n: membership.localities,
+        port: membership.port,
+    };
+    let link = match opener.connect(seat) {
         Ok(link) => link,
         Err(fault) => {
             return Joined {

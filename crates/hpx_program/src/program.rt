@@ -1,11 +1,12 @@
 ghost use Rattle.std.specs.Prelude.{◌≡◌, ◌≢◌, ◌⊎◌, [], Some, None, IfSome, ℕ, option_map};
 ghost use Rattle.std.specs.Process.{exit_status};
 ghost use Rattle.hpx_options.specs.Texts.{bad_word_text};
+ghost use Rattle.hpx_ports.specs.Links.{asked_for};
 ghost use Rattle.hpx_world.specs.Heard.{IsLatest};
 ghost use Rattle.hpx_member.specs.Leads.{IsConsolesStatus};
 ghost use Rattle.hpx_process.specs.Members.{HasJoined, left};
 ghost use Rattle.hpx_process.specs.declared.membership.Role.TheVariants.{Worker};
-ghost use Rattle.hpx_process.specs.Memberships.{IsMembership, membership_in};
+ghost use Rattle.hpx_process.specs.Memberships.{IsMembership, membership_in, seat_of};
 ghost use Rattle.hpx_top.specs.Breaches.{TellsBreach};
 ghost use Rattle.hpx_top.specs.Printed.{HasTold};
 ghost use Rattle.hpx_top.specs.Runs.{ports_of, HasCause, NothingFailed, Says};
@@ -20,7 +21,8 @@ use hpx_ports::sink::{Sink, write_all};
 use hpx_ports::source::Source;
 use hpx_ports::words::{Words, all_words};
 use hpx_process::join::{Joined, join};
-use hpx_process::membership::{Membership, membership_in};
+use hpx_process::membership::{Errand, Membership, membership_in};
+use hpx_process::problem::Problem;
 use hpx_top::acts::AllActs;
 use hpx_top::breach::Breach;
 use hpx_top::run::run;
@@ -107,6 +109,8 @@ fn take_part<R: Wait, P: Opener, S: Source, K: Sink, E: Sink, F: Fabric>(
         IfSome result.joined (λ j. (j.status ≡ result.status)
         × HasJoined membership.now j.status (option_map (λ m. left m.status (option_map (λ n. n.tables) m.node) m.journal.entries m.fault (P.Link.trace m.link) (P.Link.latest m.link) (P.Link.faults m.link)) j.member) x z) }
     ensures worker { (node : ℕ) → membership.now.role ≡ Worker node → (source.new ≡ source.old) × (sink.new ≡ sink.old) }
+    ensures unread { (problem : Problem) → membership.now.errand ≡ Errand.Problem problem → (source.new ≡ source.old) × (result.status ≢ 2) × (result.status ≢ 9) }
+    ensures asked { P.asked opener.new ≡ asked_for (seat_of membership.now) (P.asked opener.old) }
 {
     let joined = join(rt, alloc, membership, opener, source, sink);
     let status = joined.status;
@@ -172,7 +176,7 @@ pub fn program<
     ensures did { let x = ports_of (S.left source.old) (S.taken source.old) (K.held sink.old) (S.faults source.old) (K.faults sink.old) (F.faults fabric) in
         let z = ports_of (S.left source.new) (S.taken source.new) (K.held sink.new) (S.faults source.new) (K.faults sink.new) (F.faults result.fabric) in
         IfSome result.world (λ w. HasRunAsAsked (W.words given.now) result.status result.cuts.items w x z) }
-    ensures hosted { (words : _) → W.words given.now ≡ Some words → membership_in words ≡ None → result.joined ≡ None }
+    ensures hosted { (words : _) → W.words given.now ≡ Some words → membership_in words ≡ None → (result.joined ≡ None) × (opener.new ≡ opener.old) }
     ensures apart { result.joined ≢ None → (result.world ≡ None) × (result.fault ≡ None) × (result.fabric ≡ fabric) }
     ensures member { (words : _) (membership : Membership) → W.words given.now ≡ Some words → membership_in words ≡ Some membership → (result.joined ≢ None)
         ⊎ ((result.status ≡ 6) × (source.new ≡ source.old) × (sink.new ≡ sink.old) × (opener.new ≡ opener.old)) }
@@ -182,6 +186,10 @@ pub fn program<
         (option_map (λ m. left m.status (option_map (λ n. n.tables) m.node) m.journal.entries m.fault (P.Link.trace m.link) (P.Link.latest m.link) (P.Link.faults m.link)) j.member) x z × (j.status ≡ result.status)) }
     ensures worker { (words : _) (membership : Membership) (node : ℕ) → W.words given.now ≡ Some words → membership_in words ≡ Some membership
         → membership.role ≡ Worker node → (source.new ≡ source.old) × (sink.new ≡ sink.old) }
+    ensures unread { (words : _) (membership : Membership) (problem : Problem) → W.words given.now ≡ Some words → membership_in words ≡ Some membership
+        → membership.errand ≡ Errand.Problem problem → (source.new ≡ source.old) × (result.status ≢ 2) × (result.status ≢ 9) }
+    ensures asked { (words : _) (membership : Membership) → W.words given.now ≡ Some words → membership_in words ≡ Some membership → result.joined ≢ None →
+        P.asked opener.new ≡ asked_for (seat_of membership) (P.asked opener.old) }
 {
     match all_words(alloc, given) {
         Ok(words) => match membership_in(&words) {

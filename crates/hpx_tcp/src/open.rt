@@ -1,6 +1,7 @@
 //! Members find each other: each listens, connects to those with lower numbers, and accepts those with higher ones.
 ghost use Rattle.std.specs.Prelude.{◌≡◌, ◌+◌, ◌<◌, ◌≤◌, IfOk};
 ghost use Rattle.hpx_ports.specs.declared.link.Latest.TheVariants.{Never};
+ghost use Rattle.hpx_ports.specs.Links.{unasked};
 
 use crate::body::framed;
 use crate::hello::{greeted, hello};
@@ -8,7 +9,7 @@ use crate::link::TcpLink;
 use crate::reader::Start;
 use crossbeam_channel::unbounded;
 use hpx_ports::adapters::{ReaderSource, WriterSink};
-use hpx_ports::link::{LinkFault, Opener};
+use hpx_ports::link::{Asking, LinkFault, Opener, Seat};
 use hpx_ports::sink::write_all;
 use std::alloc::Global;
 use std::marker::Model;
@@ -32,28 +33,31 @@ pub struct TcpPorts<R> {
     rt: R,
     alloc: Global,
     start: Start,
+    asked: Asking,
     faults: u64,
     ghost starts: { IsAlwaysCallable start },
 }
 
 impl<R> TcpPorts<R> {
-    /// No call has failed.
+    /// Nothing was asked, and no call has failed.
     pub fn new(rt: R, alloc: Global, start: Start) -> TcpPorts<R>
         requires { IsAlwaysCallable start }
-        ensures { result.faults ≡ 0 }
+        ensures unasked { result.asked ≡ unasked }
+        ensures faultless { result.faults ≡ 0 }
     {
         TcpPorts {
             rt,
             alloc,
             start,
+            asked: Asking::none(),
             faults: 0,
         }
     }
 }
 
-/// Where a member sits: its number, how many members there are, and the port of the first.
+/// A seat that there can be.
 #[derive(Clone, Copy, Drop)]
-struct Seat {
+struct Place {
     node: u16,
     n: u16,
     port: u16,
@@ -61,16 +65,16 @@ struct Seat {
     ghost fits: { port + n ≤ 65536 },
 }
 
-impl Seat {
-    /// The seat of a member, if there can be one.
-    fn of(node: u32, n: u32, port: u16) -> Option<Seat> {
-        if n > MEMBERS || node >= n || port as u32 + n > 65_536 {
+impl Place {
+    /// The place of a seat, if there can be one.
+    fn of(seat: Seat) -> Option<Place> {
+        if seat.n > MEMBERS || seat.node >= seat.n || seat.port as u32 + seat.n > 65_536 {
             return None;
         }
-        Some(Seat {
-            node: node as u16,
-            n: n as u16,
-            port,
+        Some(Place {
+            node: seat.node as u16,
+            n: seat.n as u16,
+            port: seat.port,
         })
     }
 }
@@ -81,8 +85,11 @@ impl<R: Net<Listener = TcpListener, Stream = TcpStream> + Threads + Wait + Clock
 
     ghost faults = { λ o. o.faults };
 
-    fn connect(&mut self, node: u32, n: u32, port: u16) -> Result<TcpLink<R>, LinkFault> {
-        match opened(self.rt, self.alloc, &self.start, node, n, port) {
+    ghost asked = { λ o. o.asked };
+
+    fn connect(&mut self, seat: Seat) -> Result<TcpLink<R>, LinkFault> {
+        self.asked.add(seat);
+        match opened(self.rt, self.alloc, &self.start, seat) {
             Ok(link) => Ok(link),
             Err(LinkFault::Failed) => {
                 self.faults = self.faults.saturating_add(1);
@@ -98,21 +105,19 @@ fn opened<R: Net<Listener = TcpListener, Stream = TcpStream> + Threads + Wait + 
     rt: R,
     alloc: Global,
     start: &Start,
-    node: u32,
-    n: u32,
-    port: u16,
+    seat: Seat,
 ) -> Result<TcpLink<R>, LinkFault>
     requires { IsAlwaysCallable start.now }
     ensures { IfOk result (λ link. link ≡ record { latest = Never; faults = 0 }) }
 {
-    let Some(seat) = Seat::of(node, n, port) else {
+    let Some(place) = Place::of(seat) else {
         return Err(LinkFault::Failed);
     };
     let Ok((to, arrivals)) = unbounded(alloc) else {
         return Err(LinkFault::OutOfMemory);
     };
-    let streams = met(&rt, alloc, seat)?;
-    let mut link = TcpLink::new(rt, alloc, node, streams, arrivals);
+    let streams = met(&rt, alloc, place)?;
+    let mut link = TcpLink::new(rt, alloc, seat.node, streams, arrivals);
     link.start_readers(start, to)?;
     Ok(link)
 }
@@ -121,14 +126,14 @@ fn opened<R: Net<Listener = TcpListener, Stream = TcpStream> + Threads + Wait + 
 fn met<R: Net<Listener = TcpListener, Stream = TcpStream> + Clock>(
     rt: &R,
     alloc: Global,
-    seat: Seat,
+    place: Place,
 ) -> Result<Vec<Option<TcpStream>>, LinkFault> {
-    let Ok(listener) = TcpListener::bind(rt, address(seat.port + seat.node)) else {
+    let Ok(listener) = TcpListener::bind(rt, address(place.port + place.node)) else {
         return Err(LinkFault::Failed);
     };
     let mut streams = Vec::new(alloc);
-    reach_lower(rt, alloc, seat, &mut streams)?;
-    accept_higher(alloc, seat, &listener, &mut streams)?;
+    reach_lower(rt, alloc, place, &mut streams)?;
+    accept_higher(alloc, place, &listener, &mut streams)?;
     Ok(streams)
 }
 
@@ -136,12 +141,12 @@ fn met<R: Net<Listener = TcpListener, Stream = TcpStream> + Clock>(
 fn reach_lower<R: Net<Listener = TcpListener, Stream = TcpStream> + Clock>(
     rt: &R,
     alloc: Global,
-    seat: Seat,
+    place: Place,
     streams: &mut Vec<Option<TcpStream>>,
 ) -> Result<(), LinkFault> {
-    for peer in 0..seat.node {
-        let stream = reached(rt, seat.port + peer)?;
-        if exchanged(alloc, seat, &stream)? != peer {
+    for peer in 0..place.node {
+        let stream = reached(rt, place.port + peer)?;
+        if exchanged(alloc, place, &stream)? != peer {
             return Err(LinkFault::Failed);
         }
         if streams.push(Some(stream)).is_err() {
@@ -154,22 +159,22 @@ fn reach_lower<R: Net<Listener = TcpListener, Stream = TcpStream> + Clock>(
 /// Accepts each member with a higher number, in any order.
 fn accept_higher(
     alloc: Global,
-    seat: Seat,
+    place: Place,
     listener: &TcpListener,
     streams: &mut Vec<Option<TcpStream>>,
 ) -> Result<(), LinkFault> {
-    for _ in seat.node..seat.n {
+    for _ in place.node..place.n {
         if streams.push(None).is_err() {
             return Err(LinkFault::OutOfMemory);
         }
     }
-    for _ in seat.node + 1..seat.n {
+    for _ in place.node + 1..place.n {
         let Ok((stream, _)) = listener.accept() else {
             return Err(LinkFault::Failed);
         };
-        let peer = exchanged(alloc, seat, &stream)?;
+        let peer = exchanged(alloc, place, &stream)?;
         match streams.get_mut(peer as usize) {
-            Some(place) if peer > seat.node && place.is_none() => *place = Some(stream),
+            Some(slot) if peer > place.node && slot.is_none() => *slot = Some(stream),
             _ => return Err(LinkFault::Failed),
         }
     }
@@ -177,15 +182,15 @@ fn accept_higher(
 }
 
 /// Says hello, and takes the other's: which member is at the other end.
-fn exchanged(alloc: Global, seat: Seat, stream: &TcpStream) -> Result<u16, LinkFault>
-    ensures { IfOk result (λ peer. peer < seat.n) }
+fn exchanged(alloc: Global, place: Place, stream: &TcpStream) -> Result<u16, LinkFault>
+    ensures { IfOk result (λ peer. peer < place.n) }
 {
     let _ = stream.set_nodelay(true);
-    let bytes = framed(alloc, &hello(seat.n, seat.node))?;
+    let bytes = framed(alloc, &hello(place.n, place.node))?;
     if write_all(&mut WriterSink::new(stream), bytes.as_slice()).is_err() {
         return Err(LinkFault::Failed);
     }
-    greeted(alloc, &mut ReaderSource::new(stream), seat.n)
+    greeted(alloc, &mut ReaderSource::new(stream), place.n)
 }
 
 /// A connection to a port, tried again and again.

@@ -39,6 +39,6 @@ returns-in-Over-clause-does g c =
     let types = rw c.in-Over.is at c.in_ok-line.ensures.types in (
       Ends t.0,
       tt,
-      ends_lines t.0 _ _ _ c.requires.sheet t.1 (record { last = types.by.last; written = types.by.written }) refl
-          (record { next = types.reads.next; counted = types.reads.counted }),
+      ends_lines t.0 _ _ _ c.requires.sheet t.1 (record { last = types.by.last; over = types.by.over; written = types.by.written }) refl
+          (record { next = types.reads.next; counted = types.reads.counted; limit = types.reads.limit }),
     )

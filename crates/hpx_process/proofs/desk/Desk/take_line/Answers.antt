@@ -8,7 +8,7 @@ use Rattle.hpx_member.specs.declared.lines.LineFault.TheVariants.{InputFull, Out
 use Rattle.hpx_ports.specs.Told.{followed}
 use Rattle.hpx_top.proofs.LineLemmas.{followed_twice}
 use Rattle.hpx_top.proofs.ShowLemmas.{if_err_from}
-use Rattle.hpx_process.proofs.Prompts.{error_unwritten, one_line, one_long, prompt_fails, prompt_unwritten}
+use Rattle.hpx_process.proofs.Prompts.{error_unwritten, memory_loses, one_line, one_long, prompt_fails, prompt_unwritten}
 use Rattle.hpx_process.proofs.Talking.{handed_same}
 use Rattle.hpx_process.proofs.desk.Desk.take_line.Goals as goal
 
@@ -22,8 +22,8 @@ returns-in-Ok-Line-clause-fails g c =
     let takes = rw c.in-Ok-Line.field-0-is at c.in-Ok-Line.ensures.ok in (
       [],
       _ ∷ [],
-      prompt_fails OutOfMemory (_ ∷ []) _ _ c.requires.sheet refl (lit≤ tt) c.in_ok-write.ensures.held (one_line _ _ _ takes)
-          (record { next = c.in-Ok-Line.ensures.reads; counted = c.in-Ok-Line.ensures.counted }),
+      prompt_fails OutOfMemory (_ ∷ []) _ _ c.requires.sheet refl (lit≤ tt) c.in_ok-write.ensures.held (one_line _ _ _ takes) (memory_loses _)
+          (record { next = c.in-Ok-Line.ensures.reads; counted = c.in-Ok-Line.ensures.counted; limit = λ few. c.in-Ok-Line.ensures.limit }),
     )
 
 pub returns-in_err-write-in-Ok-Long-clause-fails :
@@ -32,7 +32,7 @@ returns-in_err-write-in-Ok-Long-clause-fails g c =
     let takes = rw c.in-Ok-Long.field-0-is at c.in-Ok-Long.ensures.ok in
     if_err_from c.from_residual-in_err-write-in-Ok-Long.result c.in_err-write-in-Ok-Long.field-0.0 _ c.from_residual-in_err-write-in-Ok-Long.ensures.1
     (error_unwritten c.in_err-write-in-Ok-Long.field-0.0 takes.line _ _ _ c.requires.sheet refl c.in_err-write-in-Ok-Long.ensures.cause.0 takes.long c.in_ok-write.ensures.held
-    c.in_err-write-in-Ok-Long.ensures.front (one_long _ _ takes) (record { next = c.in-Ok-Long.ensures.reads; counted = c.in-Ok-Long.ensures.counted }))
+    c.in_err-write-in-Ok-Long.ensures.front (one_long _ _ takes) (record { next = c.in-Ok-Long.ensures.reads; counted = c.in-Ok-Long.ensures.counted; limit = λ few. c.in-Ok-Long.ensures.limit }))
 
 pub returns-in-Ok-Long-clause-types : goal.returns-in-Ok-Long-clause-types
 returns-in-Ok-Long-clause-types g c =
@@ -44,7 +44,7 @@ returns-in-Ok-Long-clause-types g c =
         typed = one_long _ _ takes;
         written = c.in_ok-write-in-Ok-Long.ensures.held ∙ (ap (λ o. followed o too_long) c.in_ok-write.ensures.held ∙ followed_twice _ prompt too_long);
       };
-      reads = record { next = c.in-Ok-Long.ensures.reads; counted = c.in-Ok-Long.ensures.counted };
+      reads = record { next = c.in-Ok-Long.ensures.reads; counted = c.in-Ok-Long.ensures.counted; limit = λ few. c.in-Ok-Long.ensures.limit };
     }
 
 pub returns-in-Ok-Full-clause-fails : goal.returns-in-Ok-Full-clause-fails
@@ -52,22 +52,22 @@ returns-in-Ok-Full-clause-fails g c =
     let full = rw c.in-Ok-Full.field-0-is at c.in-Ok-Full.ensures.ok in (
       [],
       [],
-      prompt_fails InputFull [] _ _ c.requires.sheet refl refl c.in_ok-write.ensures.held (handed_same _ _ (ap (option_map (λ input. lines_in (slice_split is_newline input))) full.1))
-          (record { next = c.in-Ok-Full.ensures.reads; counted = c.in-Ok-Full.ensures.counted }),
+      prompt_fails InputFull [] _ _ c.requires.sheet refl refl c.in_ok-write.ensures.held (handed_same _ _ (ap (option_map (λ input. lines_in (slice_split is_newline input))) full.1)) (λ which. full.0.no_line)
+          (record { next = c.in-Ok-Full.ensures.reads; counted = c.in-Ok-Full.ensures.counted; limit = λ few. c.in-Ok-Full.ensures.limit }),
     )
 
 pub returns-in-Err-Failed-clause-fails : goal.returns-in-Err-Failed-clause-fails
 returns-in-Err-Failed-clause-fails g c = (
   [],
   [],
-  prompt_fails Read [] _ _ c.requires.sheet refl refl c.in_ok-write.ensures.held (handed_same _ _ (ap (option_map (λ input. lines_in (slice_split is_newline input))) c.in-Err-Failed.ensures.err))
-      (record { next = c.in-Err-Failed.ensures.reads; counted = c.in-Err-Failed.ensures.counted }),
+  prompt_fails Read [] _ _ c.requires.sheet refl refl c.in_ok-write.ensures.held (handed_same _ _ (ap (option_map (λ input. lines_in (slice_split is_newline input))) c.in-Err-Failed.ensures.err)) (λ which. c.in-Err-Failed.ensures.no_line refl)
+      (record { next = c.in-Err-Failed.ensures.reads; counted = c.in-Err-Failed.ensures.counted; limit = λ few. c.in-Err-Failed.ensures.limit }),
 )
 
 pub returns-clause-fails : goal.returns-clause-fails
 returns-clause-fails g c = (
   [],
   [],
-  prompt_fails OutOfMemory [] _ _ c.requires.sheet refl (lit≤ tt) c.in_ok-write.ensures.held (handed_same _ _ (ap (option_map (λ input. lines_in (slice_split is_newline input))) c.in-Err-OutOfMemory.ensures.err))
-      (record { next = c.in-Err-OutOfMemory.ensures.reads; counted = c.in-Err-OutOfMemory.ensures.counted }),
+  prompt_fails OutOfMemory [] _ _ c.requires.sheet refl (lit≤ tt) c.in_ok-write.ensures.held (handed_same _ _ (ap (option_map (λ input. lines_in (slice_split is_newline input))) c.in-Err-OutOfMemory.ensures.err)) (memory_loses _)
+      (record { next = c.in-Err-OutOfMemory.ensures.reads; counted = c.in-Err-OutOfMemory.ensures.counted; limit = λ few. c.in-Err-OutOfMemory.ensures.limit }),
 )
