@@ -164,8 +164,8 @@ problem_not_read lf writes status m n k z member neither other well =
 -- ---- the whole
 
 framed_done : (r : Rules) (errand : Errand) (m : Left) (x mid : Ports) (f : ℕ) → HasDone r errand m x mid → HasDone r errand m (record x { frame_faults = f }) (record mid { frame_faults = f })
-framed_done r Session m x mid f h = record { sheet = h.sheet; reading = h.reading; served = h.served; reads = h.reads; whole = h.whole; read_up = h.read_up; between_lines = h.between_lines }
-framed_done r (Problem problem) m x mid f h = record { asked = h.asked; served = h.served; fed = h.fed; front = h.front; whole = h.whole; unread = h.unread }
+framed_done r Session m x mid f h = record { sheet = h.sheet; reading = h.reading; served = h.served; reads = h.reads; whole = h.whole; read_up = h.read_up; between_lines = h.between_lines; due = h.due }
+framed_done r (Problem problem) m x mid f h = record { asked = h.asked; served = h.served; fed = h.fed; front = h.front; whole = h.whole; due = h.due; unread = h.unread }
 
 framed_led : (membership : Membership) (status : ℕ) (m : Left) (x z : Ports) (f : ℕ) → HasLed membership status m x z → HasLed membership status m (record x { frame_faults = f }) (record z { frame_faults = f })
 framed_led membership status m x z f h = record {

@@ -1,5 +1,5 @@
 -- What a console left at its desk, and by its slip.
-use Rattle.std.specs.Prelude.{◌+◌, ◌≤◌, ◌⊎◌, ◌==◌}
+use Rattle.std.specs.Prelude.{IfSome, option_map, ◌+◌, ◌≤◌, ◌⊎◌, ◌==◌}
 use Rattle.std.specs.List.{concat, AllByRecursion}
 use Rattle.std.proofs.Common.{ℕ, Bool, true, false, List, [], ◌∷◌, ◌++◌, ◌≡◌, Option, Some, None, map, refl, sym, ap, ◌∙◌, subst, arith, append-nil, append_assoc, inl, inr}
 use Rattle.std.proofs.lemmas.Bool.{eqb-true}
@@ -8,9 +8,10 @@ use Rattle.hpx_journal.specs.Entries.{Rules}
 use Rattle.hpx_journal.specs.Pool.{prints_of}
 use Rattle.hpx_part.specs.Data.{Entry}
 use Rattle.hpx_ports.specs.Told.{followed}
+use Rattle.hpx_tables.specs.Tables.{Tables}
 use Rattle.hpx_value.specs.declared.profile.Profile.{Profile}
 use Rattle.app_console.specs.Lines.{IsPiece}
-use Rattle.hpx_member.specs.Leads.{HasLineCause, HasServed, IsNotOfLines, status_of_lines}
+use Rattle.hpx_member.specs.Leads.{HasLineCause, HasLineToFeed, HasServed, IsNotOfLines, status_of_lines}
 use Rattle.hpx_member.specs.Serves.{Asking, Block, Closing, Done, Feeding, Given, IsAt, IsBlock, Serves, Stage, entries_in, talk_at, talk_in, tried_at}
 use Rattle.hpx_member.specs.Talks.{Only, Talk, Handed, Over, Shown}
 use Rattle.hpx_member.specs.declared.lines.LineFault.{LineFault}
@@ -24,7 +25,7 @@ use Rattle.hpx_process.specs.declared.sheet.Sheet.TheVariants.{Blank}
 use Rattle.hpx_top.specs.Runs.{Ports, ports_of}
 use Rattle.hpx_process.specs.declared.sheet.Sheet.{Sheet}
 use Rattle.hpx_process.specs.Deeds.{HasBroken, HasTalked, Reads, Sitting, Wrote, sitting}
-use Rattle.hpx_process.specs.Members.{HasMembersCause, HasReckoned, HasSat, IsConsole, Left}
+use Rattle.hpx_process.specs.Members.{HasMembersCause, HasReckoned, HasSat, IsConsole, IsDue, Left}
 use Rattle.hpx_process.specs.Parts.{IsWhole}
 use Rattle.hpx_process.specs.Slips.{HasPassed, HasStuck, IfOver, Note, note, handed_by, handed_in, shown_by, shown_in, unasked}
 use Rattle.hpx_process.proofs.Passing.{prints_append}
@@ -46,6 +47,15 @@ served_as r status es W W' B B' f g s = record { stage = s.stage; serves = by s.
         → (IsNotOfLines status × Serves r es (Only W') s.stage) ⊎ ((fault : LineFault) × (status ≡ status_of_lines fault) × Serves r es (B' fault) s.stage)
     by (inl h) = inl (h.0, serves_as (Only W) (Only W') (λ a b. f a) h.1)
     by (inr h) = inr (h.0, h.1, serves_as (B h.0) (B' h.0) (g h.0) h.2)
+
+if_mapped : {A B : Type 0} (f : A → B) (o : Option A) (P : B → Type 0) → IfSome o (λ a. P (f a)) → IfSome (option_map f o) P
+if_mapped f None P h = tt
+if_mapped f (Some a) P h = h
+
+pub due_as : {A : Type 0} (r : Rules) (es : List Entry) (W W' : List Talk → Type 0) (f : A → Tables) (o : Option A) (P : Tables → Type 0) → ((talk : List Talk) → W talk → W' talk)
+    → HasLineToFeed r es W ⊎ IfSome o (λ a. P (f a)) → HasLineToFeed r es W' ⊎ IfSome (option_map f o) P
+due_as r es W W' f o P g (inl h) = inl (h.0, serves_as (Only W) (Only W') (λ a b. g a) h.1)
+due_as r es W W' f o P g (inr h) = inr (if_mapped f o P h)
 
 pub served_fact : (r : Rules) (status : ℕ) (es : List Entry) (W : List Talk → Type 0) (B : LineFault → List Talk → List Talk → Type 0) (P : Type 0)
     → ((talk : List Talk) → W talk → P) → ((fault : LineFault) (talk tried : List Talk) → B fault talk tried → P) → HasServed r status es W B → P
@@ -271,11 +281,18 @@ from_desk r status es s reading left taken text z blank fresh served =
     subst (λ q. HasServed r status es (HasTalked (sitting Blank q left taken text) z) (HasBroken (sitting Blank q left taken text) z)) fresh
     (subst (λ a. HasServed r status es (HasTalked (sitting a reading left taken text) z) (HasBroken (sitting a reading left taken text) z)) blank served)
 
+due_from_desk : (r : Rules) (m : Left) (s : Sheet) (reading : Reading) (left : Option (List ℕ)) (taken : ℕ) (text : Option (List ℕ)) (z : Sitting) → s ≡ Blank
+    → reading ≡ record { pending = []; read = 0; ended = false } → IsDue r m (HasTalked (sitting s reading left taken text) z)
+    → IsDue r m (HasTalked (sitting Blank (record { pending = []; read = 0; ended = false }) left taken text) z)
+due_from_desk r m s reading left taken text z blank fresh due =
+    subst (λ q. IsDue r m (HasTalked (sitting Blank q left taken text) z)) fresh (subst (λ a. IsDue r m (HasTalked (sitting a reading left taken text) z)) blank due)
+
 pub sat : (r : Rules) (m : Left) (x z : Ports) (s sheet : Sheet) (first reading : Reading) → s ≡ Blank → first ≡ record { pending = []; read = 0; ended = false }
     → HasServed r m.status m.entries (HasTalked (sitting s first x.left x.taken x.text) (sitting sheet reading z.left z.taken z.text))
     (HasBroken (sitting s first x.left x.taken x.text) (sitting sheet reading z.left z.taken z.text))
+    → (m.status ≡ 5 → IsDue r m (HasTalked (sitting s first x.left x.taken x.text) (sitting sheet reading z.left z.taken z.text)))
     → HasSat r m x z
-sat r m x z s sheet first reading blank fresh served =
+sat r m x z s sheet first reading blank fresh served due =
     let end = sitting sheet reading z.left z.taken z.text in
     let all = from_desk r m.status m.entries s first x.left x.taken x.text end blank fresh served in
     record {
@@ -286,6 +303,7 @@ sat r m x z s sheet first reading blank fresh served =
       whole = λ well input left. sat_whole r m.status m.entries input (at_first x) end refl refl left well all;
       read_up = λ well input left. sat_read_up r m.status m.entries input (at_first x) end refl refl left well all;
       between_lines = sat_between r m.status m.entries (at_first x) end all;
+      due = λ full. due_from_desk r m s first x.left x.taken x.text end blank fresh (due full);
     }
 
 pub sat_cause : (n : ℕ) (p : Profile) (settles : Bool) (r : Rules) (m : Left) (x z : Ports) (s sheet : Sheet) (first reading : Reading) → s ≡ Blank
@@ -310,8 +328,8 @@ sat_cause n p settles r m x z s sheet first reading blank fresh served console l
 
 pub reckoned : (r : Rules) (m : Left) (x z : Ports) (given line : List ℕ) (first asked : Bool) → given ≡ line → first ≡ false
     → HasServed r m.status m.entries (HasPassed given (note first x.text) (note asked z.text)) (HasStuck given (note first x.text) (note asked z.text))
-    → z.left ≡ x.left → z.taken ≡ x.taken → HasReckoned r line m x z
-reckoned r m x z given line first asked is none served left taken =
+    → (m.status ≡ 5 → IsDue r m (HasPassed given (note first x.text) (note asked z.text))) → z.left ≡ x.left → z.taken ≡ x.taken → HasReckoned r line m x z
+reckoned r m x z given line first asked is none served due left taken =
     let all : HasServed r m.status m.entries (HasPassed line (note false x.text) (note asked z.text)) (HasStuck line (note false x.text) (note asked z.text)) =
     subst (λ a. HasServed r m.status m.entries (HasPassed line (note a x.text) (note asked z.text)) (HasStuck line (note a x.text) (note asked z.text))) none
     (subst (λ l. HasServed r m.status m.entries (HasPassed l (note first x.text) (note asked z.text)) (HasStuck l (note first x.text) (note asked z.text))) is served) in
@@ -321,6 +339,8 @@ reckoned r m x z given line first asked is none served left taken =
       fed = reckoned_fed r m.status line m.entries (note false x.text) (note asked z.text) refl all;
       front = reckoned_front r m.status line m.entries (note false x.text) (note asked z.text) all;
       whole = λ well. reckoned_whole r m.status line m.entries (note false x.text) (note asked z.text) refl well all;
+      due = λ full. subst (λ a. IsDue r m (HasPassed line (note a x.text) (note asked z.text))) none
+          (subst (λ l. IsDue r m (HasPassed l (note first x.text) (note asked z.text))) is (due full));
       unread = (left, taken);
     }
 

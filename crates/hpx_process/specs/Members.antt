@@ -16,10 +16,11 @@ use Rattle.hpx_ports.specs.declared.link.Latest.TheVariants.{Got}
 use Rattle.hpx_ports.specs.declared.link.Post.{Post}
 use Rattle.app_console.specs.Lines.{IsPiece}
 use Rattle.hpx_member.specs.Bodies.{IsOutOfPlace, end_body}
-use Rattle.hpx_member.specs.Leads.{HasAsked, HasServed, IsConsolesStatus, IsNoFrame}
+use Rattle.hpx_member.specs.Leads.{HasAsked, HasLineToFeed, HasServed, IsConsolesStatus, IsNoFrame}
 use Rattle.hpx_member.specs.Seats.{IsNodeAt, IsPart, Tells}
 use Rattle.hpx_member.specs.Serves.{IsIdleBehind}
-use Rattle.hpx_member.specs.Stops.{IsFaultBy, IsWorkersStatus, status_of_fault}
+use Rattle.hpx_member.specs.Stops.{IsFaultBy, IsTurnDue, IsWorkersStatus, status_of_fault}
+use Rattle.hpx_member.specs.Talks.{Talk}
 use Rattle.hpx_member.specs.Words.{Heeds}
 use Rattle.hpx_member.specs.declared.stop.MemberFault.{MemberFault}
 use Rattle.hpx_top.specs.Acts.{act_of}
@@ -69,11 +70,12 @@ pub record IsMember (n : ℕ) (p : Profile) (k : ℕ) (Odd : ℕ → List ℕ �
   pub faultless : m.fault ≡ None → (m.status ≢ 7) × (m.status ≢ 8)
   pub unbooted : m.node ≡ None → (m.status ≡ 6) × (m.entries ≡ [])
 
--- a worker answers each wave that it hears of, feeds no line, and ends well only where it was told to
+-- a worker answers each wave that it hears of, feeds no line, ends for want of room only where a turn is due, and well only where it was told to
 pub record IsWorker (n : ℕ) (p : Profile) (k : ℕ) (m : Left) : Type 0 where
   pub member : IsMember n p k IsOutOfPlace m
   pub ends : IsWorkersStatus m.status
   pub unfed : AllByRecursion (λ e. FeedsNothing e.event) m.entries
+  pub due : m.status ≡ 5 → IfSome m.node (λ t. IsTurnDue t m.latest)
   pub heeds : (tr : List Post) → m.trace ≡ Some tr → Heeds m.status tr
   pub end : m.status ≡ 0 → m.latest ≡ Got 0 end_body
 
@@ -91,8 +93,13 @@ IsOfRole membership m (Worker node) = IsWorker membership.localities membership.
 
 -- ---- what a console reads and writes
 
+-- a turn is due of a console: to feed a line that was handed out, as this was said, or of its node
+abbrev pub IsDue : Rules → Left → (List Talk → Type 0) → Type 0
+IsDue r m Went = HasLineToFeed r m.entries Went ⊎ IfSome m.node (λ t. IsTurnDue t m.latest)
+
 -- It sat at a desk: its lines were handed out there, and its entries shown. Where it ended well, that is the whole text of the input, which was read up
--- to its end or to `quit`. Where no line could be read, or no more may be, no whole line that was read is left.
+-- to its end or to `quit`. Where no line could be read, or no more may be, no whole line that was read is left. It ends for want of room only where a
+-- turn is due.
 pub record HasSat (r : Rules) (m : Left) (x z : Ports) : Type 0 where
   pub sheet : Sheet
   pub reading : Reading
@@ -103,6 +110,7 @@ pub record HasSat (r : Rules) (m : Left) (x z : Ports) : Type 0 where
   pub whole : m.status ≡ 0 → (input : List ℕ) → x.left ≡ Some input → IsWhole r input m.entries x.text z.text
   pub read_up : m.status ≡ 0 → (input : List ℕ) → x.left ≡ Some input → IsReadUp input z.left
   pub between_lines : (m.status ≡ 2) ⊎ (m.status ≡ 9) → IsPiece reading.pending
+  pub due : m.status ≡ 5 → IsDue r m (HasTalked (sitting Blank (record { pending = []; read = 0; ended = false }) x.left x.taken x.text) (sitting sheet reading z.left z.taken z.text))
 
 -- It was given a slip with this line: that was fed, or nothing, and the prints or a front of them were written, where it ended well all. It read
 -- nothing.
@@ -112,6 +120,7 @@ pub record HasReckoned (r : Rules) (line : List ℕ) (m : Left) (x z : Ports) : 
   pub fed : (lines_fed m.entries ≡ []) ⊎ (lines_fed m.entries ≡ line ∷ [])
   pub front : WritesFront (concat (prints_of m.entries)) x.text z.text
   pub whole : m.status ≡ 0 → (lines_fed m.entries ≡ line ∷ []) × (z.text ≡ followed x.text (concat (prints_of m.entries)))
+  pub due : m.status ≡ 5 → IsDue r m (HasPassed line (note false x.text) (note asked z.text))
   pub unread : (z.left ≡ x.left) × (z.taken ≡ x.taken)
 
 abbrev pub HasDone : Rules → Errand → Left → Ports → Ports → Type 0

@@ -9,7 +9,7 @@ ghost use Rattle.hpx_steps.specs.Rest.{rules_of};
 ghost use Rattle.hpx_top.specs.Acts.{act_of};
 ghost use Rattle.hpx_top.specs.Printed.{HasCounted};
 ghost use Rattle.hpx_top.specs.Runs.{ports_of};
-ghost use Rattle.hpx_process.specs.Members.{HasJoined, HasLed, HasMembersCause, HasReckoned, HasSat, IsConsole, IsWorker, left};
+ghost use Rattle.hpx_process.specs.Members.{HasJoined, HasLed, HasMembersCause, HasReckoned, HasSat, IsConsole, IsDue, IsWorker, left};
 ghost use Rattle.hpx_process.specs.Deeds.{HasBroken, HasTalked, sitting};
 ghost use Rattle.hpx_process.specs.Memberships.{IsMembership, problem_line, seat_of};
 ghost use Rattle.hpx_process.specs.Slips.{HasPassed, HasStuck, note};
@@ -71,6 +71,9 @@ fn sit<R: Wait, L: Link + Drop, S: Source, K: Sink>(
     ensures served { let x = sitting desk.old.sheet desk.old.reader.now (S.left desk.old.source.now) (S.taken desk.old.source.now) (K.held desk.old.sink.now) in
         let z = sitting desk.new.sheet desk.new.reader.now (S.left desk.new.source.now) (S.taken desk.new.source.now) (K.held desk.new.sink.now) in
         HasServed (rules_of act_of membership.now.localities membership.now.profile) result.status result.journal.entries (HasTalked x z) (HasBroken x z) }
+    ensures due { let x = sitting desk.old.sheet desk.old.reader.now (S.left desk.old.source.now) (S.taken desk.old.source.now) (K.held desk.old.sink.now) in
+        let z = sitting desk.new.sheet desk.new.reader.now (S.left desk.new.source.now) (S.taken desk.new.source.now) (K.held desk.new.sink.now) in
+        result.status ≡ 5 → IsDue (rules_of act_of membership.now.localities membership.now.profile) (left result.status (option_map (λ n. n.tables) result.node) result.journal.entries result.fault (L.trace result.link) (L.latest result.link) (L.faults result.link)) (HasTalked x z) }
     ensures lines { HasLineCause result.status (S.faults desk.old.source.now) (S.faults desk.new.source.now) (K.faults desk.old.sink.now) (K.faults desk.new.sink.now) (desk.new.reader.now.read == 67108864) }
 {
     let acts = AllActs {
@@ -132,6 +135,9 @@ fn pass<R: Wait, L: Link + Drop, K: Sink>(
         let z = note slip.new.asked (K.held slip.new.sink.now) in
         HasServed (rules_of act_of membership.now.localities membership.now.profile) result.status result.journal.entries
         (HasPassed (problem_line slip.old.problem) x z) (HasStuck (problem_line slip.old.problem) x z) }
+    ensures due { let x = note slip.old.asked (K.held slip.old.sink.now) in
+        let z = note slip.new.asked (K.held slip.new.sink.now) in
+        result.status ≡ 5 → IsDue (rules_of act_of membership.now.localities membership.now.profile) (left result.status (option_map (λ n. n.tables) result.node) result.journal.entries result.fault (L.trace result.link) (L.latest result.link) (L.faults result.link)) (HasPassed (problem_line slip.old.problem) x z) }
     ensures lines { HasLineCause result.status 0 0 (K.faults slip.old.sink.now) (K.faults slip.new.sink.now) false }
 {
     let acts = AllActs {

@@ -8,7 +8,7 @@ returns-clause-sat g c =
     sat_back g.S.Source.left g.S.Source.taken g.S.Source.faults g.K.Sink.held g.K.Sink.faults _ _ _ _ c.sit.new.desk.source.now _ c.sit.new.desk.sink.now
     (c.source-1.given.1 (sym c.sit.ensures.source)) (c.sink-1.given.1 (sym c.sit.ensures.sink))
     (sat _ _ _ (ports_of (g.S.Source.left c.sit.new.desk.source.now) (g.S.Source.taken c.sit.new.desk.source.now) (g.K.Sink.held c.sit.new.desk.sink.now)
-    (g.S.Source.faults c.sit.new.desk.source.now) (g.K.Sink.faults c.sit.new.desk.sink.now) _) _ _ _ _ refl c.new-reader.ensures c.sit.ensures.served)
+    (g.S.Source.faults c.sit.new.desk.source.now) (g.K.Sink.faults c.sit.new.desk.sink.now) _) _ _ _ _ refl c.new-reader.ensures c.sit.ensures.served c.sit.ensures.due)
 
 pub returns-clause-cause : goal.returns-clause-cause
 returns-clause-cause g c =

@@ -1,4 +1,4 @@
-use Rattle.hpx_process.proofs.Served.{served_as, served_fact}
+use Rattle.hpx_process.proofs.Served.{due_as, served_as, served_fact}
 use Rattle.hpx_process.proofs.Talking.{talked_none}
 use Rattle.hpx_process.proofs.join.sit.Goals as goal
 use Rattle.std.proofs.Common.{refl}
@@ -14,3 +14,6 @@ returns-clause-sink g c = served_fact _ _ _ _ _ _ (λ talk h. h.1) (λ fault tal
 
 pub returns-clause-served : goal.returns-clause-served
 returns-clause-served g c = served_as _ _ _ _ _ _ _ (λ talk h. h.2) (λ fault talk tried h. h.2) c.console.ensures.served
+
+pub returns-clause-due : goal.returns-clause-due
+returns-clause-due g c = λ full. due_as _ _ _ _ _ _ _ (λ talk h. h.2) (c.console.ensures.due full)
