@@ -46,7 +46,7 @@ session_led lf left taken reads held writes membership items status x m n s t k 
 
 reckoned_wide : (r : Rules) (line : List ℕ) (m : Left) (left : Option (List ℕ)) (taken reads : ℕ) (t u : Option (List ℕ)) (w v : ℕ)
     → HasReckoned r line m (ports_of None 0 t 0 w 0) (ports_of None 0 u 0 v 0) → HasReckoned r line m (ports_of left taken t reads w 0) (ports_of left taken u reads v 0)
-reckoned_wide r line m left taken reads t u w v h = record { asked = h.asked; served = h.served; fed = h.fed; front = h.front; whole = h.whole; unread = (refl, refl) }
+reckoned_wide r line m left taken reads t u w v h = record { asked = h.asked; served = h.served; fed = h.fed; front = h.front; whole = h.whole; due = h.due; unread = (refl, refl) }
 
 pub problem_led : {M : Type 0} {S : Type 0} {K : Type 0} (lf : M → Left) (left : S → Option (List ℕ)) (taken reads : S → ℕ) (held : K → Option (List ℕ)) (writes : K → ℕ)
     (membership : Membership) (problem : Problems.Problem) (items : List Counter) (status : ℕ) (m n : M) (s t : S) (o k l z : K) → membership.errand ≡ Problem problem
