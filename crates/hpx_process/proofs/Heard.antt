@@ -27,7 +27,7 @@ use Rattle.hpx_ended.specs.Tally.{verdict_of}
 use Rattle.hpx_ended.specs.declared.round.Verdict.TheVariants.{Ended}
 use Rattle.hpx_member.specs.Feeding.{FeedsIdle, IsIdle}
 use Rattle.hpx_member.specs.Leads.{Ends}
-use Rattle.hpx_member.specs.Rounds.{AreOwn, Closes, IsBehind, Last, Nothing, Asking, Ending, Refused, Turn, Fed, Began, Took, Anew, Closed, fed_at, line_at, lines_from, tally_of}
+use Rattle.hpx_member.specs.Rounds.{AreOwn, Closes, IsBehind, Last, Nothing, Asking, Ending, Refused, Spent, Turn, Fed, Began, Took, Anew, Closed, fed_at, line_at, lines_from, tally_of}
 use Rattle.hpx_member.specs.Seats.{IsNodeAt, IsPart}
 use Rattle.hpx_member.specs.declared.stop.MemberFault.{MemberFault}
 use Rattle.hpx_patient.specs.Lines.{LinesStay}
@@ -108,11 +108,12 @@ none_behind n (suc m) (e ∷ es) h =
 -- ---- the end of a console
 
 ends_well : (n : ℕ) (fault : Option MemberFault) (last : Last) → Ends n 0 fault last → (some : ℕ) × (last ≡ Ending some)
-ends_well n fault Nothing h = absurd (h refl)
+ends_well n fault Nothing h = absurd (h.0 refl)
 ends_well n fault (Asking wave some) (inl h) = absurd (omega (arith, h))
 ends_well n fault (Asking wave some) (inr h) = absurd (omega (arith, h))
 ends_well n fault (Ending some) h = (some, refl)
 ends_well n fault (Refused from body) h = absurd (omega (arith, h.0))
+ends_well n fault Spent h = absurd (omega (arith, h.0))
 
 lines_same : (es : List Entry) → lines_in es ≡ lines_fed es
 lines_same [] = refl
