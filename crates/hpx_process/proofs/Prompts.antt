@@ -1,5 +1,5 @@
 -- Prompt after prompt.
-use Rattle.std.specs.Prelude.{◌||◌, IfSome}
+use Rattle.std.specs.Prelude.{◌||◌, ◌⊎◌, IfSome}
 use Rattle.std.proofs.Common.{ℕ, true, false, List, [], ◌∷◌, ◌++◌, ◌≡◌, Option, Some, None, refl, sym, ap, ◌∙◌, subst, append-nil, append_assoc, inl, inr}
 use Rattle.std.proofs.lemmas.List.Concat.{flat_map-append}
 use Rattle.hpx_ports.specs.Told.{followed, preceded}
@@ -44,10 +44,10 @@ over_by_quit all left reading t = inl (subst (λ o. IfSome o IsQuitNext) (sym t.
     by_left None = tt
     by_left (Some lines) = t.quit
 
--- want of memory loses nothing that was read
-pub memory_loses : (reading : Reading) → LosesNone OutOfMemory reading
-memory_loses reading (inl h) = absurd (let no : OutOfMemory ≡ Read = h in cc)
-memory_loses reading (inr h) = absurd (let no : OutOfMemory ≡ InputFull = h in cc)
+-- want of memory is neither a failed read nor a full input
+pub memory_apart : (OutOfMemory ≡ Read) ⊎ (OutOfMemory ≡ InputFull) → ⊥
+memory_apart (inl h) = let no : OutOfMemory ≡ Read = h in cc
+memory_apart (inr h) = let no : OutOfMemory ≡ InputFull = h in cc
 
 -- ---- one line more
 

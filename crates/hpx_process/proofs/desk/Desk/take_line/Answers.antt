@@ -8,7 +8,7 @@ use Rattle.hpx_member.specs.declared.lines.LineFault.TheVariants.{InputFull, Out
 use Rattle.hpx_ports.specs.Told.{followed}
 use Rattle.hpx_top.proofs.LineLemmas.{followed_twice}
 use Rattle.hpx_top.proofs.ShowLemmas.{if_err_from}
-use Rattle.hpx_process.proofs.Prompts.{error_unwritten, memory_loses, one_line, one_long, prompt_fails, prompt_unwritten}
+use Rattle.hpx_process.proofs.Prompts.{error_unwritten, memory_apart, one_line, one_long, prompt_fails, prompt_unwritten}
 use Rattle.hpx_process.proofs.Talking.{handed_same}
 use Rattle.hpx_process.proofs.desk.Desk.take_line.Goals as goal
 
@@ -22,7 +22,7 @@ returns-in-Ok-Line-clause-fails g c =
     let takes = rw c.in-Ok-Line.field-0-is at c.in-Ok-Line.ensures.ok in (
       [],
       _ ∷ [],
-      prompt_fails OutOfMemory (_ ∷ []) _ _ c.requires.sheet refl (lit≤ tt) c.in_ok-write.ensures.held (one_line _ _ _ takes) (memory_loses _)
+      prompt_fails OutOfMemory (_ ∷ []) _ _ c.requires.sheet refl (lit≤ tt) c.in_ok-write.ensures.held (one_line _ _ _ takes) (λ which. absurd (memory_apart which))
           (record { next = c.in-Ok-Line.ensures.reads; counted = c.in-Ok-Line.ensures.counted; limit = λ few. c.in-Ok-Line.ensures.limit }),
     )
 
@@ -60,7 +60,7 @@ pub returns-in-Err-Failed-clause-fails : goal.returns-in-Err-Failed-clause-fails
 returns-in-Err-Failed-clause-fails g c = (
   [],
   [],
-  prompt_fails Read [] _ _ c.requires.sheet refl refl c.in_ok-write.ensures.held (handed_same _ _ (ap (option_map (λ input. lines_in (slice_split is_newline input))) c.in-Err-Failed.ensures.err)) (λ which. c.in-Err-Failed.ensures.no_line refl)
+  prompt_fails Read [] _ _ c.requires.sheet refl refl c.in_ok-write.ensures.held (handed_same _ _ (ap (option_map (λ input. lines_in (slice_split is_newline input))) c.in-Err-Failed.ensures.err)) (λ which. c.in-Err-Failed.ensures.no_line (rw c.in-Err-Failed.field-0-is refl))
       (record { next = c.in-Err-Failed.ensures.reads; counted = c.in-Err-Failed.ensures.counted; limit = λ few. c.in-Err-Failed.ensures.limit }),
 )
 
@@ -68,6 +68,6 @@ pub returns-clause-fails : goal.returns-clause-fails
 returns-clause-fails g c = (
   [],
   [],
-  prompt_fails OutOfMemory [] _ _ c.requires.sheet refl (lit≤ tt) c.in_ok-write.ensures.held (handed_same _ _ (ap (option_map (λ input. lines_in (slice_split is_newline input))) c.in-Err-OutOfMemory.ensures.err)) (memory_loses _)
+  prompt_fails OutOfMemory [] _ _ c.requires.sheet refl (lit≤ tt) c.in_ok-write.ensures.held (handed_same _ _ (ap (option_map (λ input. lines_in (slice_split is_newline input))) c.in-Err-OutOfMemory.ensures.err)) (λ which. absurd (memory_apart which))
       (record { next = c.in-Err-OutOfMemory.ensures.reads; counted = c.in-Err-OutOfMemory.ensures.counted; limit = λ few. c.in-Err-OutOfMemory.ensures.limit }),
 )
