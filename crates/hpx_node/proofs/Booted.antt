@@ -33,6 +33,7 @@ at_boot n here profile = record {
   sent = 0;
   taken = 0;
   answered = 0;
+  cache = [];
 }
 
 -- they stand for an empty part

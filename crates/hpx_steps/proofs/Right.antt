@@ -76,7 +76,7 @@ module _ (t : Tables) (act : Act) (code : act.code ≢ 1) (far : is_far t.locali
       near = target_near t.localities act.ids (none_of (nat_le t.localities act.origin) (are_far t.localities act.ids) far).1 large
 
       home : o.home ≡ t.here
-      home = elim for.may [
+      home = elim for.granted [
         | inl to ↦ let k : for.to < t.localities = omega (arith, to, near) in sym to ∙ for.here k
         | inr here ↦ sym here
       ]

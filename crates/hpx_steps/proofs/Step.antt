@@ -3,7 +3,7 @@ use Rattle.hpx_steps.proofs.Common.{AreNumbered, Asked, Born, Count, Done, Entry
 use Rattle.hpx_steps.proofs.Homes.{Adds, Homes, NoEntry, OneEntry, homes_then, step_homes}
 use Rattle.hpx_steps.proofs.Still.{landed_sound}
 use Rattle.hpx_steps.proofs.Then.{grown}
-use Rattle.hpx_steps.specs.Steps.{Settle, Settles}
+use Rattle.hpx_steps.specs.Steps.{Forget, Hint, Learn, Settle, Settles}
 use Rattle.hpx_steps.proofs.Tools.{Keeps, Stills, sound_then, still_sound}
 use Rattle.hpx_part.specs.Data.{Looked}
 
@@ -87,6 +87,9 @@ step_sound r s s' Mark entries h g = still r s s' entries h (step_homes s entrie
 step_sound r s s' Park entries h g = still r s s' entries h (step_homes s entries r h s' Park g) (Rattle.hpx_steps.proofs.Aside.park_step r s s' entries h g)
 step_sound r s s' Release entries h g = still r s s' entries h (step_homes s entries r h s' Release g) (Rattle.hpx_steps.proofs.Release.release_step r s s' entries h g)
 step_sound r s s' Settle entries h g = settled r s s' entries h g
+step_sound r s s' Learn entries h g = still r s s' entries h (step_homes s entries r h s' Learn g) (Rattle.hpx_steps.proofs.Learned.learn_step r s s' entries h g)
+step_sound r s s' Forget entries h g = still r s s' entries h (step_homes s entries r h s' Forget g) (Rattle.hpx_steps.proofs.Learned.forget_step r s s' entries h g)
+step_sound r s s' Hint entries h g = still r s s' entries h (step_homes s entries r h s' Hint g) (Rattle.hpx_steps.proofs.Learned.hint_step r s s' entries h g)
 step_sound r s s' Reorder entries h g = still r s s' entries h (step_homes s entries r h s' Reorder g) (Rattle.hpx_steps.proofs.Reorder.reorder_step r s s' entries h g)
 
 pub steps_sound : (r : Rules) (s s' : Turn) (labels : List Label) (entries : List Entry) → IsSound r s entries → Steps r s labels s' → Sound r s s' entries (written labels)

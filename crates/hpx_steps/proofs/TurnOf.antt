@@ -6,7 +6,7 @@ use Rattle.hpx_steps.specs.Steps.{Settle}
 use Rattle.hpx_steps.specs.Turn.{in_release}
 use Rattle.std.specs.List.Sorted.{IsPermutation}
 use Rattle.hpx_steps.proofs.Tools.{found_among, if_so, none_of, rest_sound, root_stays}
-use Rattle.hpx_steps.proofs.Handled.{Leads, act_leads, arrived_leads, asked_leads, freed_leads, go_leads, object_leads, own_leads, returned_leads}
+use Rattle.hpx_steps.proofs.Handled.{Leads, act_leads, arrived_leads, asked_leads, freed_leads, go_leads, learned_leads, object_leads, own_leads, returned_leads}
 use Rattle.hpx_steps.proofs.Right.{go_right, landed_right, near_right, object_right, return_right, parked_away}
 use Rattle.hpx_steps.proofs.Step.{steps_sound}
 
@@ -59,7 +59,7 @@ module _ (r : Rules) (t t' : Tables) (desk : List Parcel) (taken : ℕ) (came ma
   message_leads (Give id entry) hand told fit far right held other usual deals leaves = absurd (other id entry refl)
   message_leads (Free o) hand told fit far right held other usual deals leaves = freed_leads r with_message t' o (record { due = refl; fresh = refl }) refl refl told
       (ap (λ n. if stands_here t o && (not (waits_here t o) && (n == 0)) then None else breaks 7 (Free o) (min (2 ^ 128 - 1) n)) (held o refl) ∙ right) deals leaves
-  message_leads (Cached id place) hand told fit far right held other usual deals leaves = absurd (let e : breaks 8 (Cached id place) (length t.records) ≡ None = right in cc)
+  message_leads (Cached id place) hand told fit far right held other usual deals leaves = learned_leads r with_message (record { due = refl; fresh = refl }) t' id place hand deals
   message_leads (Go act) hand told fit far right held other usual deals leaves =
       let k = go_right t (bare (target_of act)) (target_of act) (move_to act) right in go_leads r with_message (record { due = refl; fresh = refl }) t' act hand k.0 k.1 deals
   message_leads (Shipped act state) hand told fit far right held other usual deals leaves =
