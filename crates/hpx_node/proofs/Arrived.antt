@@ -46,6 +46,7 @@ only t u = record t {
   came = u.came;
   objects = u.objects;
   records = u.records;
+  cache = u.cache;
 }
 
 pub deals_rest : (p : Parcel) (t t' : Tables) → DealsWith p t t' → t' ≡ only t t'
@@ -66,6 +67,7 @@ deals_rest (Free o) t t' h =
       came = y.came;
       objects = t'.objects;
       records = y.records;
+      cache = y.cache;
     }) (sym rest)
     ∙ ap (only t) (sym h)))
 deals_rest _ t t' h = h ∙ ap (only t) (sym h)

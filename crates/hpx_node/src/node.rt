@@ -99,7 +99,7 @@ impl<A: Acts + Copy> Model for Node<A> {
     } };
 
     ghost invariant = { λ n. (A.count n.acts ≡ n.localities) × (n.here < n.localities) × (n.localities ≤ 64) × IsValid n.profile
-        × (n.records.here ≡ n.here) × (n.records.profile ≡ n.profile) };
+        × (n.records.here ≡ n.here) × (n.records.profile ≡ n.profile) × (n.cache.size ≡ n.profile.cache) };
 }
 
 impl<A: Acts + Copy> Node<A> {

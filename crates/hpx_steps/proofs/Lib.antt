@@ -51,6 +51,7 @@ pub mod Given
 pub mod Unheld
 pub mod Freed
 pub mod Stranded
+pub mod Heard
 pub mod Onward
 pub mod Homes
 pub mod Step

@@ -5,7 +5,7 @@ use Rattle.hpx_steps.specs.Steps.{SendsOn, goes_to}
 use Rattle.hpx_steps.proofs.Tools.{Changes, Keeps, Sees, acting, asks_of, bound_none, by_rows, counts_near, due_change, fewer, first_goes, flowless, frees_of, holding, if_so, more_come, outgoing_change, same_asks, same_dead, same_flows, same_says, same_tracks, same_travels, sees_by, sees_leads, ships_of, then, told_as, view_worth, wait_sum}
 
 -- what is elsewhere is not here
-not_here : (here place : ℕ) (at : Option ℕ) → elsewhere here at ≡ Some place → place ≢ here
+pub not_here : (here place : ℕ) (at : Option ℕ) → elsewhere here at ≡ Some place → place ≢ here
 not_here here place None e = cc
 not_here here place (Some p) e = if_so (p == here) (λ t. absurd (let k : None ≡ Some place = rw t at e in cc))
     (λ f. let k : Some p ≡ Some place = rw f at e in let same : p ≡ place = cc in λ is. let t : (p == here) ≡ true = eq-eqb p here (same ∙ is) in let u : true ≡ false = sym t ∙ f in cc)

@@ -7,6 +7,7 @@ use Rattle.hpx_steps.specs.Turn.{in_release}
 use Rattle.std.specs.List.Sorted.{IsPermutation}
 use Rattle.hpx_steps.proofs.Tools.{found_among, if_so, none_of, rest_sound, root_stays}
 use Rattle.hpx_steps.proofs.Handled.{Leads, act_leads, arrived_leads, asked_leads, freed_leads, go_leads, learned_leads, object_leads, own_leads, returned_leads}
+use Rattle.hpx_steps.specs.Frames.{IsNearPlace}
 use Rattle.hpx_steps.proofs.Right.{go_right, landed_right, near_right, object_right, return_right, parked_away}
 use Rattle.hpx_steps.proofs.Step.{steps_sound}
 
@@ -84,13 +85,13 @@ module _ (act_of : ℕ → ℕ → ℕ → State → Act → Outcome) (t t' : Ta
   came p bytes = record (at_rest (record t { taken = t.taken + 1 })) { came = p ∷ []; last = Some (In bytes) }
 
   -- what is dealt with leads back to rest
-  pub frame_stands : (p : Parcel) (bytes : List ℕ) (events : List Event) → parcel_of bytes ≡ Some p → IsParcel p
+  pub frame_stands : (p : Parcel) (bytes : List ℕ) (events : List Event) → parcel_of bytes ≡ Some p → IsParcel p → IsNearPlace t.localities p
       → Leads r (came p bytes) (lands p) t' events → StandsBut (lands p) act_of t' (entries ++ at_all t.here (In bytes ∷ events))
-  frame_stands p bytes events spelled fit leads =
+  frame_stands p bytes events spelled fit near leads =
       subst (λ es. StandsBut (lands p) act_of t' (entries ++ at_all t.here (In bytes ∷ es))) leads.writes
       (turn_stands_but act_of None (lands p) t t' entries (Writes (In bytes) ∷ leads.labels) leads.last h (
         came p bytes,
-        record { calm = record { due = refl; fresh = refl }; free = record { came = refl; mailed = refl }; parcel = p; spelled = spelled; fit = fit; now = refl },
+        record { calm = record { due = refl; fresh = refl }; free = record { came = refl; mailed = refl }; parcel = p; spelled = spelled; fit = fit; near = near; now = refl },
         leads.steps,
       ))
 

@@ -33,6 +33,7 @@ use Rattle.hpx_tables.specs.Pending.{Waits, Refills, awaits, waits_with, ids_nam
 use Rattle.hpx_tables.specs.declared.kept.Arrival.{Arrival}
 use Rattle.hpx_tables.specs.declared.kept.Outgoing.{Outgoing}
 use Rattle.hpx_steps.specs.Calls.{act_in}
+use Rattle.hpx_steps.specs.Frames.{IsNearPlace}
 use Rattle.hpx_steps.specs.Items.{Among}
 use Rattle.hpx_steps.specs.Paused.{HasSplit}
 use Rattle.hpx_steps.specs.Turn.{Turn, commits, tokens_of, bare_due, bare_standing, waiting}
@@ -557,6 +558,7 @@ pub record ComesIn (r : Rules) (s : Turn) (bytes : List ℕ) (s' : Turn) : Type 
   pub parcel : Parcel
   pub spelled : r.parcel_of bytes ≡ Some parcel
   pub fit : IsParcel parcel
+  pub near : IsNearPlace s.tables.localities parcel
   pub now : s' ≡ wrote (In bytes) (record s { came = parcel ∷ []; tables = record s.tables { taken = s.tables.taken + 1 } })
 
 -- an action that is in hand goes its way, without an entry; one from the desk is accepted
