@@ -10,6 +10,7 @@ use Rattle.hpx_steps.proofs.Handled.{Leads, act_leads, arrived_leads, asked_lead
 use Rattle.hpx_steps.specs.Frames.{IsNearPlace}
 use Rattle.hpx_steps.proofs.Right.{go_right, landed_right, near_right, object_right, return_right, parked_away}
 use Rattle.hpx_steps.proofs.Step.{steps_sound}
+use Rattle.hpx_steps.proofs.Taken.{taken_leads}
 
 -- where one step after another leads there
 pub turn_stands_but : (act_of : ℕ → ℕ → ℕ → State → Act → Outcome) (landed landed' : Option Id) (t t' : Tables) (entries : List Entry) (labels : List Label) (l : Option Event)
@@ -106,7 +107,7 @@ module _ (act_of : ℕ → ℕ → ℕ → State → Act → Outcome) (t t' : Ta
       → ((id : Id) (entry : ℕ) → p ≡ Give id entry → ⊥) → DealsWith p (record t { taken = t.taken + 1 }) t' → Leaves p t t'
       → Leads r (came p bytes) (lands p) t' (effects t p)
   frame_leads (Apply act) bytes spelled fit right other deals leaves =
-      act_leads r (came (Apply act) bytes) (record { due = refl; fresh = refl }) t' act (Apply act) (inl refl) (inl (refl, refl)) refl deals
+      taken_leads r (came (Apply act) bytes) act (Apply act) (inl refl) (inl (refl, refl)) refl t' deals
   frame_leads (Move act) bytes spelled fit right other deals leaves =
       act_leads r (came (Move act) bytes) (record { due = refl; fresh = refl }) t' act (Move act) (inr refl) (inl (refl, refl)) refl deals
   frame_leads (Return id) bytes spelled fit right other deals leaves = usual_leads (Return id) bytes spelled fit right other tt deals leaves

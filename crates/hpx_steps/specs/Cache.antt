@@ -87,14 +87,16 @@ written_dues (PrintDue bytes ∷ due) t = Print bytes ∷ written_dues due t
 abbrev pub tells_of : Tables → Act → ℕ → Bool
 tells_of t act place = is_other t place && (is_other t act.origin && not (place == act.origin))
 
--- behind an action that was taken from a frame, on a managed object, and is no MOVE: where it goes home, what was said of its object is
--- forgotten; where it goes on from there, the locality that it is from is told
-abbrev pub with_hint : Way → Act → Tables → Tables
-with_hint (To place) act t = cond (not (act.code == 1) && nat_le 16 (target_of act).kind)
-    (cond ((target_of act).home == t.here)
+-- behind an action on a managed object that goes to a place: where that is its home, what was said of it is forgotten; where it goes on from
+-- there, the locality that it is from is told
+abbrev pub hinted : Act → ℕ → Tables → Tables
+hinted act place t = cond ((target_of act).home == t.here)
     (cond (tells_of t act place) (record t { outgoing = t.outgoing ++ going act.origin (Cached (bare (target_of act)) place) ∷ [] }) t)
-    (forgot (target_of act) t))
-    t
+    (forgot (target_of act) t)
+
+-- so it is behind one that was taken from a frame, and is no MOVE
+abbrev pub with_hint : Way → Act → Tables → Tables
+with_hint (To place) act t = cond (not (act.code == 1) && nat_le 16 (target_of act).kind) (hinted act place t) t
 with_hint _ act t = t
 
 -- an action that was taken from a frame goes its way

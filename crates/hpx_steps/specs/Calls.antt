@@ -20,7 +20,7 @@ use Rattle.hpx_tables.specs.Kept.{record_here, count_here, moving_here}
 use Rattle.hpx_tables.specs.Merged.{may_merge, merged_in}
 use Rattle.hpx_tables.specs.Pending.{Waits, Refills, awaits}
 use Rattle.hpx_tables.specs.Tables.{Tables}
-use Rattle.hpx_steps.specs.Cache.{learned_at}
+use Rattle.hpx_steps.specs.Cache.{learned_at, with_taken}
 use Rattle.hpx_steps.specs.Mail.{with_mail, with_mail_if, with_return}
 use Rattle.hpx_steps.specs.Ways.{Way, Accept, accepts, way, with_act}
 
@@ -154,9 +154,9 @@ with_object act state t = record t {
 -- what waits then, or is on its way: an action that it brought; the answer to an ask; that a dead object is to be freed; ids
 -- that a freed object gives up. Credit that was asked for is in the hand of the commit that waits for it. Nothing else changes
 -- but records at an ask or a return, and objects at a Free. An object is put where it may stand, with its MOVE;
--- and that one has landed is a return. Where an object is said to be, the cache learns that
+-- and that one has landed is a return. Where an object is said to be, the cache learns that; and behind an action it forgets, or its origin is told
 abbrev pub DealsWith : Parcel → Tables → Tables → Type 0
-DealsWith (Apply act) t t' = t' ≡ with_act act t
+DealsWith (Apply act) t t' = t' ≡ with_taken act t
 DealsWith (Move act) t t' = t' ≡ with_act act t
 DealsWith (Return id) t t' = t' ≡ record (with_free id t) { records = t'.records }
 DealsWith (Ask id asker entry) t t' = t' ≡ record (with_mail asker (Give (given_here t id) entry) t) { records = t'.records }

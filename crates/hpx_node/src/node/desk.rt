@@ -242,7 +242,7 @@ impl<A: Acts + Copy> Node<A> {
         ensures page { (id : _) (entry : _) → parcel ≡ Give id entry → book.old.spare ≤ book.new.spare + 1 }
     {
         match parcel {
-            Parcel::Apply(act) => self.post(act),
+            Parcel::Apply(act) => self.take_up(act),
             Parcel::Move(act) => self.post(act),
             Parcel::Return(id) => self.take_back(book, id),
             Parcel::Ask { id, asker, entry } => self.answer(book, id, asker, entry),
