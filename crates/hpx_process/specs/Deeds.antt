@@ -99,11 +99,12 @@ abbrev pub AreLeft : Sheet → Option (List (List ℕ)) → Option (List (List �
 AreLeft Full others left = IfSome others (λ lines. before_quit lines ≡ [])
 AreLeft _ others left = others ≡ left
 
--- the lines are over: the next of those that are left is a `quit`, or a read has met the end
+-- the next line is a `quit`
 abbrev pub IsQuitNext : List (List ℕ) → Type 0
 IsQuitNext [] = ⊥
 IsQuitNext (line ∷ lines) = is_quit line ≡ true
 
+-- the lines are over: the next of those that are left is a `quit`, or a read has met the end
 abbrev pub AreOver : Option (List (List ℕ)) → Reading → Type 0
 AreOver others reading = IfSome others IsQuitNext ⊎ (reading.ended ≡ true)
 
