@@ -69,10 +69,11 @@ impl Spelled {
 
     /// The id of a managed object; often that of the number, and seldom without credit.
     fn managed(&mut self, numbers: &mut Numbers, log: u32) -> Result<(), OutOfMemory> {
-        match numbers.below(8) {
-            0 => self.id(1, 16, 2, log),
-            1 => self.id(0, 16, 1, log),
-            2 => self.id(2, 16, 1, log),
+        match numbers.below(12) {
+            0 => self.id(0, 16, 1, log),
+            1 => self.id(2, 16, 1, log),
+            2 | 3 | 4 => self.id(1, 16, 2, log),
+            5 | 6 | 7 => self.id(1, 16, 3, log),
             _ => self.id(1, 16, 1, log),
         }
     }
@@ -120,7 +121,7 @@ impl Spelled {
                 self.target(numbers)?;
             }
         }
-        self.number(0, 1)
+        self.continuation(numbers)
     }
 
     /// A MOVE.
@@ -133,7 +134,33 @@ impl Spelled {
         self.number(2, 1)?;
         let to = numbers.one_of(&[0, 0, 1, 1, 2, 64]);
         self.number(u64::from(to), 8)?;
-        self.number(0, 1)
+        self.continuation(numbers)
+    }
+
+    /// Where the answer goes, in one action of four.
+    fn continuation(&mut self, numbers: &mut Numbers) -> Result<(), OutOfMemory> {
+        if numbers.below(4) > 0 {
+            return self.number(0, 1);
+        }
+        self.number(1, 1)?;
+        self.target(numbers)?;
+        self.number(u64::from(numbers.below(9)), 4)
+    }
+
+    /// The state of an object: none, or a number, an id and a continuation.
+    fn state(&mut self, numbers: &mut Numbers) -> Result<(), OutOfMemory> {
+        self.number(2, 4)?;
+        if numbers.below(2) == 0 {
+            return self.number(0, 4);
+        }
+        self.number(2, 2)?;
+        self.number(2, 1)?;
+        self.number(7, 8)?;
+        self.number(4, 1)?;
+        self.target(numbers)?;
+        self.number(1, 2)?;
+        self.target(numbers)?;
+        self.number(4, 4)
     }
 
     /// The fields of a message that brings credit home, or asks for it.
@@ -170,7 +197,7 @@ impl Spelled {
             6 | 7 => self.moving(numbers),
             8 => {
                 self.moving(numbers)?;
-                self.number(0, 8)
+                self.state(numbers)
             }
             10 => {
                 let log = numbers.one_of(&[99, 99, 99, 8]);

@@ -1,4 +1,4 @@
-//! Any frames at all, fed to localities in the middle of sessions in which a number moves: each answer is the one that the
+//! Any frames at all, fed to localities in the middle of sessions in which objects are made, called and moved: each answer is the one that the
 //! rules give, and a refusal leaves everything as it was.
 #![tactic(auto)]
 
@@ -6,6 +6,8 @@
 mod facts;
 #[cfg(test)]
 mod frames;
+#[cfg(test)]
+mod given;
 #[cfg(test)]
 mod pair;
 #[cfg(test)]

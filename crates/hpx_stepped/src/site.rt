@@ -57,6 +57,16 @@ pub struct Seen {
     pub front: Option<u32>,
 }
 
+/// What is seen of an object at a locality.
+#[derive(Clone, Copy, PartialEq, Eq)]
+pub struct Told {
+    pub holds: bool,
+    pub count: u128,
+    pub held: u128,
+    pub owed: u128,
+    pub place: Option<u32>,
+}
+
 /// The number: the first object that is made at locality 1.
 pub fn number() -> Gid {
     Gid::new(1, 16, 1)
@@ -91,7 +101,7 @@ impl Site {
     }
 
     /// The next job, if there is one.
-    fn fire(&mut self, alloc: Global) -> Result<Option<Job>, OutOfMemory> {
+    pub fn fire(&mut self, alloc: Global) -> Result<Option<Job>, OutOfMemory> {
         if !self.book.room() {
             return Err(OutOfMemory);
         }
@@ -215,6 +225,17 @@ impl Site {
             runs: self.node.runs(),
             awaited: self.node.awaited(),
             front: self.front(),
+        }
+    }
+
+    /// What is seen of an object.
+    pub fn told(&self, object: Gid) -> Told {
+        Told {
+            holds: self.node.holds(object),
+            count: self.node.count(object),
+            held: self.node.held(object),
+            owed: self.node.owed(object),
+            place: self.node.place(object),
         }
     }
 
