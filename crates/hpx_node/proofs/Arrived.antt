@@ -1,6 +1,13 @@
 -- A message is taken up and dealt with, as the calls write it.
 use Rattle.hpx_node.proofs.Common.{Accepts, Apply, Arrived, Ask, DealsWith, Entry, Event, Free, Give, Id, In, Leaves, List, Move, None, Option, Parcel, Profile, Record, Return, Some, Tables, [], ap, append_assoc, arith, arrives, arrives_at, asked, at_all, cases_Bool, effects, find, find_record, ids_in, inl, inr, ins, is_standing, length, length-append, lowered, option_and_then, option_map, part, refl, subst, sym, with_return, with_returns, without, ℕ, ◌++◌, ◌==◌, ◌∙◌, ◌∷◌, ◌≡◌, ◌≤◌}
 use Rattle.std.specs.List.Sorted.{IsPermutation}
+use Rattle.std.specs.Prelude.{Bool, true, false, not, cond, nat_le, ◌&&◌}
+use Rattle.hpx_value.specs.Ids.{bare}
+use Rattle.hpx_journal.specs.Data.{Act, Cached}
+use Rattle.hpx_journal.specs.Entries.{target_of}
+use Rattle.hpx_steps.specs.Cache.{forgot, tells_of, with_hint, with_taken}
+use Rattle.hpx_steps.specs.Mail.{going}
+use Rattle.hpx_steps.specs.Ways.{Accept, Begin, Queue, To, Way, way, with_act}
 
 -- ---- the number of frames that came is no more than that of entries
 
@@ -46,7 +53,26 @@ only t u = record t {
   came = u.came;
   objects = u.objects;
   records = u.records;
+  cache = u.cache;
 }
+
+-- behind an action from a frame only the cache changes, or there is one message more
+hint_rest : (w : Way) (act : Act) (u : Tables) → with_hint w act u ≡ record u { outgoing = (with_hint w act u).outgoing; cache = (with_hint w act u).cache }
+hint_rest Accept act u = refl
+hint_rest Queue act u = refl
+hint_rest (Begin place) act u = refl
+hint_rest (To place) act u = each (not (act.code == 1) && nat_le 16 (target_of act).kind) ((target_of act).home == u.here) (tells_of u act place)
+  where
+    each : (a b c : Bool) → (let v : Tables = cond a (cond b (cond c (record u { outgoing = u.outgoing ++ going act.origin (Cached (bare (target_of act)) place) ∷ [] }) u) (forgot (target_of act) u)) u in
+        v ≡ record u { outgoing = v.outgoing; cache = v.cache })
+    each false b c = refl
+    each true false c = refl
+    each true true false = refl
+    each true true true = refl
+
+taken_rest : (act : Act) (t : Tables) → with_taken act t ≡ only t (with_taken act t)
+taken_rest act t =
+    let rest = hint_rest (way t act) act (with_act act t) in rest ∙ ap (only t) (sym rest)
 
 pub deals_rest : (p : Parcel) (t t' : Tables) → DealsWith p t t' → t' ≡ only t t'
 deals_rest (Give id entry) t t' h = h.rest ∙ ap (only t) (sym h.rest)
@@ -66,8 +92,10 @@ deals_rest (Free o) t t' h =
       came = y.came;
       objects = t'.objects;
       records = y.records;
+      cache = y.cache;
     }) (sym rest)
     ∙ ap (only t) (sym h)))
+deals_rest (Apply act) t t' h = h ∙ (taken_rest act t ∙ ap (only t) (sym h))
 deals_rest _ t t' h = h ∙ ap (only t) (sym h)
 
 -- so it is with a message from the desk

@@ -8,7 +8,7 @@ use Rattle.hpx_journal.specs.Entries.{Rules}
 use Rattle.hpx_steps.specs.Flows.{IsFlowing}
 use Rattle.hpx_steps.specs.Rest.{ArePlaced, IsOrderly, Lacks, MovesBegan, StandsAtRest, StandsWith}
 use Rattle.hpx_steps.specs.Turn.{at_rest}
-use Rattle.hpx_steps.proofs.Booted.{boot_arrived, boot_bare, boot_homes}
+use Rattle.hpx_steps.proofs.Booted.{boot_arrived, boot_bare, boot_heard, boot_homes}
 
 -- its tables
 abbrev pub at_boot : ℕ → ℕ → Profile → Tables
@@ -33,6 +33,7 @@ at_boot n here profile = record {
   sent = 0;
   taken = 0;
   answered = 0;
+  cache = [];
 }
 
 -- they stand for an empty part
@@ -40,8 +41,8 @@ pub boot_stands : (act_of : ℕ → ℕ → ℕ → State → Act → Outcome) (
 boot_stands act_of n here profile = search rules
 
 -- and so they stand at rest
-pub boot_at_rest : (r : Rules) (t : Tables) → t.came ≡ [] → t.outgoing ≡ [] → t.desk ≡ [] → t.queued ≡ [] → t.stray ≡ [] → StandsWith r t [] [] [] → IsOrderly r t [] → Lacks t → MovesBegan r t [] → ArePlaced r t [] → IsFlowing r (at_rest t) [] → StandsAtRest r t []
-boot_at_rest r t came outgoing desk queued stray stands orderly lacks begun placed flowing = record {
+pub boot_at_rest : (r : Rules) (t : Tables) → t.came ≡ [] → t.outgoing ≡ [] → t.desk ≡ [] → t.queued ≡ [] → t.stray ≡ [] → t.cache ≡ [] → StandsWith r t [] [] [] → IsOrderly r t [] → Lacks t → MovesBegan r t [] → ArePlaced r t [] → IsFlowing r (at_rest t) [] → StandsAtRest r t []
+boot_at_rest r t came outgoing desk queued stray cache stands orderly lacks begun placed flowing = record {
   stands = stands;
   orderly = orderly;
   lacks = lacks;
@@ -49,6 +50,7 @@ boot_at_rest r t came outgoing desk queued stray stands orderly lacks begun plac
   placed = placed;
   flowing = flowing;
   homes = boot_homes r t outgoing desk queued stray;
+  heard = boot_heard r t cache;
   bare = boot_bare t came;
   arrived = boot_arrived t came;
 }

@@ -52,6 +52,7 @@ pub mod Targets
 pub mod TurnSteps
 pub mod Told
 pub mod Turned
+pub mod HeardFrame
 pub mod Turns
 pub mod Waited
 pub mod Unread

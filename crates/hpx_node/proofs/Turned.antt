@@ -1,4 +1,5 @@
 -- A message is taken up, dealt with, and what follows it is done: all that holds goes on to hold.
+use Rattle.hpx_steps.proofs.Right.{near_place}
 use Rattle.hpx_node.proofs.Common.{Accepts, Act, AllByRecursion, Book, Broken, DealsWith, Entry, HasFollowed, HasRoom, In, IsNext, IsParcel, IsTidy, Leaves, List, Mail, MayFollow, Next, None, OnlySpare, Option, Outcome, Parcel, Some, Stands, StandsAtRest, State, Tables, Writes, [], ap, arith, bare_act, bare_state, broken, desk_leads, desk_stands, effects, frame_leads, frame_stands, get_or, in_hand, inl, inr, kind_of, message_of, named, near_right, parcel_of, refl, rest_stands, rules_of, subst, sym, ℕ, ◌++◌, ◌+◌, ◌<◌, ◌^◌, ◌∙◌, ◌∷◌, ◌≡◌, ◌≤◌}
 use Rattle.hpx_node.proofs.Messages.{messages_first}
 use Rattle.hpx_steps.specs.Calls.{lands}
@@ -89,7 +90,7 @@ module _ (act_of : ℕ → ℕ → ℕ → State → Act → Outcome) (t s mid :
     -- before what waited goes on
     pub frame_done : StandsBut (lands p) act_of t' later
     frame_done = subst (StandsBut (lands p) act_of t') (sym wrote.grows)
-        (frame_stands act_of t t' b.entries h lasts p frame (effects t p ++ behind.more) spelled fit behind.leads)
+        (frame_stands act_of t t' b.entries h lasts p frame (effects t p ++ behind.more) spelled fit (near_place t p right) behind.leads)
 
     pub frame_takes : (u : Tables) → u ≡ goes_on (landed_in p) t' → Takes frame t u b.entries later
     frame_takes u last =

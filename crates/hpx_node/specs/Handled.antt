@@ -1,7 +1,8 @@
 -- What a node does with a message that it takes up.
-use Rattle.std.specs.Prelude.{List, [], None, Some, ℕ, true, false, ◌++◌, ◌+◌, ◌∷◌, ◌≡◌, ◌⊎◌}
+use Rattle.std.specs.Prelude.{List, [], Option, None, Some, ℕ, true, false, ◌++◌, ◌+◌, ◌∷◌, ◌≡◌, ◌⊎◌}
 use Rattle.std.specs.List.{list_any}
-use Rattle.hpx_node.specs.Names.{Accepts, DealsWith, Entry, Event, In, Leaves, Mail, Parcel, Tables, effects}
+use Rattle.hpx_journal.specs.Data.{Cached}
+use Rattle.hpx_node.specs.Names.{Accepts, DealsWith, Entry, Event, Id, In, Leaves, Mail, Parcel, Tables, effects}
 use Rattle.hpx_parcel.specs.Reading.{parcel_of, IsRefused}
 use Rattle.hpx_tables.specs.Rules.{broken}
 use Rattle.hpx_steps.specs.Rows.{kind_of}
@@ -12,6 +13,16 @@ use Rattle.hpx_node.specs.declared.parts.TakeFault.{TakeFault}
 use Rattle.hpx_node.specs.declared.parts.DeskFault.{DeskFault}
 use Rattle.hpx_node.specs.declared.parts.TakeFault.TheVariants as take_faults
 use Rattle.hpx_node.specs.declared.parts.DeskFault.TheVariants as desk_faults
+
+-- a message does not say where an object is
+abbrev pub IsPlain : Parcel → Type 0
+IsPlain (Cached id place) = ⊥
+IsPlain _ = Unit {0}
+
+-- which object a message says to be where
+abbrev pub said_in : Parcel → Option (Id × ℕ)
+said_in (Cached id place) = Some (id, place)
+said_in _ = None
 
 -- a frame is accepted: it spells a message that breaks no rule, whose action, if it has one, waits; where it brings a commit its
 -- last answer, that goes on, or its action fails; where it tells that an object landed, what waited for that goes on

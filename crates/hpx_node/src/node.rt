@@ -10,6 +10,7 @@ ghost use Rattle.hpx_steps.specs.Mail.{is_other, with_mail};
 
 use crate::moves::Moves;
 use hpx_agas::records::Records;
+use hpx_cache::cache::Cache;
 use hpx_tables::boot::roots;
 use hpx_tables::kept::{Fit, Letter, Outgoing};
 use hpx_tables::objects::Objects;
@@ -58,6 +59,7 @@ pub struct Node<A: Acts + Copy> {
     sent: u64,
     taken: u64,
     answered: u64,
+    cache: Cache,
 }
 
 impl<A: Acts + Copy> Model for Node<A> {
@@ -89,6 +91,7 @@ impl<A: Acts + Copy> Model for Node<A> {
         sent = n.sent;
         taken = n.taken;
         answered = n.answered;
+        cache = n.cache.entries;
       };
       spare = min (min n.accepted.spare n.desk.spare)
           (min n.outgoing.spare (min (vec_capacity n.running - vec_len n.running)
@@ -96,7 +99,7 @@ impl<A: Acts + Copy> Model for Node<A> {
     } };
 
     ghost invariant = { λ n. (A.count n.acts ≡ n.localities) × (n.here < n.localities) × (n.localities ≤ 64) × IsValid n.profile
-        × (n.records.here ≡ n.here) × (n.records.profile ≡ n.profile) };
+        × (n.records.here ≡ n.here) × (n.records.profile ≡ n.profile) × (n.cache.size ≡ n.profile.cache) };
 }
 
 impl<A: Acts + Copy> Node<A> {
@@ -133,6 +136,7 @@ impl<A: Acts + Copy> Node<A> {
             sent: 0,
             taken: 0,
             answered: 0,
+            cache: Cache::new(alloc, profile.cache)?,
         })
     }
 

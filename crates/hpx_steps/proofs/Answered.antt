@@ -57,7 +57,7 @@ module _ (r : Rules) (s : Turn) (entries : List Entry) (h : IsSound r s entries)
   moves w m n a b c d = omega (arith, drop_moves (Ask id asker entry) s hand w m a b, (mail_change true asker give (with_records records (drops s))).0 w, sent_total w true other asker give n c d)
 
   pub tidy : IsTidy now
-  tidy = holding (TidyAt s) (sent_if true other asker give) s now change.1 h.tidy (mail_tidy s.tables true asker give (λ b. credit) (λ b. sym home) (λ b. brings) (λ b other. tt))
+  tidy = holding (TidyAt s) (sent_if true other asker give) s now change.1 h.tidy (mail_tidy s.tables true asker give (λ b. credit) (λ b. sym home) (λ b. brings) (λ b other. tt) (λ b. tt))
 
   asked_less : (o : Id) (n : ℕ) → cond other 0 (0 + gives_for o n give) ≤ asks_for s.tables.here o n (Ask id asker entry)
   asked_less o n = if_so other (λ t. rw t (omega arith)) (λ f. rw (f, eq-eqb asker s.tables.here (asker_here s.tables asker near f)) (omega arith))

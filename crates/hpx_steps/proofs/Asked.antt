@@ -80,7 +80,7 @@ module _ (r : Rules) (s : Turn) (entries : List Entry) (h : IsSound r s entries)
       )
 
   tidy : IsTidy now
-  tidy = holding (TidyAt s) (Working asker ∷ sent_if true other id.home ask) s now change.1 h.tidy (fit_commit, mail_tidy s.tables true id.home ask (λ b. least) (λ b. refl) (λ b. refl) (λ b other. tt))
+  tidy = holding (TidyAt s) (Working asker ∷ sent_if true other id.home ask) s now change.1 h.tidy (fit_commit, mail_tidy s.tables true id.home ask (λ b. least) (λ b. refl) (λ b. refl) (λ b other. tt) (λ b. tt))
 
   -- the id gives its credit up
   tokens_hand : (f : Token → ℕ) → sum_by f (tokens_of asker.hand) + f (held_token (bare id) 0) ≡ sum_by f (tokens_of w.hand)

@@ -163,6 +163,7 @@ module _ (t : Tables) where
       placed = record { placed = h.placed.placed; own = λ o. omega (arith, h.placed.own o, own_is o) };
       flowing = h.flowing;
       homes = h.homes;
+      heard = h.heard;
       lacks = all_among (λ (w : Waits). w.asked ≢ []) t.pending (λ w m. (h.tidy (Pending w) m).2);
       bare = all_among (λ (a : Arrival). a.object.log ≡ None) t.came (λ a m. h.tidy (Brought a) m);
       arrived = h.arrived;
@@ -261,6 +262,7 @@ module _ (t : Tables) where
       placed = record { placed = h.placed.placed; told = λ o j. omega (arith, none_told o j); own = λ o. omega (arith, h.placed.own o, own_is o) };
       flowing = h.flowing;
       homes = h.homes;
+      heard = h.heard;
       arrived = h.arrived;
       numbers = grind arith;
     }

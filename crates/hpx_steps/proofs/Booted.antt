@@ -1,6 +1,6 @@
 -- Where nothing is on its way, nothing waits and there is no record, no move has begun.
 use Rattle.hpx_steps.proofs.Common.{◌++◌, ◌∷◌, AllByRecursion, Among, Apply, ArePlaced, Arrival, Brought, EndsAt, Entry, Flow, Going, Id, IsFlowing, Leaving, List, MovesBegan, None, OnDesk, Outgoing, Parcel, Record, Rules, Shipped, Some, Stray, Tables, Waiting, [], act_in, ap, arith, at_rest, brought, false, find_record, flow, flow_of, grants_of_all, inl, inr, is_away, leads_on, moved_by, option_map_or, record_moves, record_rests, refl, subst, sum_by, sym, target_of, true, weigh, ◌+◌, ◌==◌, ◌∷◌, ◌≡◌, ◌≤◌, ◌⊎◌}
-use Rattle.hpx_steps.specs.Homes.{HasHomes}
+use Rattle.hpx_steps.specs.Homes.{HasHeard, HasHomes}
 use Rattle.hpx_steps.proofs.Tools.{by_flows, zeros, bound_none}
 
 no_record : (rs : List Record) (o : Id) (x : Record) → rs ≡ [] → find_record o rs ≡ Some x → ⊥
@@ -65,6 +65,13 @@ boot_homes r t outgoing desk queued stray = record {
     none p (inl m) = m
     none p (inr (inl m)) = subst (Among p) desk m
     none p (inr (inr m)) = subst (Among p) stray m
+
+-- and nothing was said
+pub boot_heard : (r : Rules) (t : Tables) → t.cache ≡ [] → HasHeard r (at_rest t) []
+boot_heard r t cache = record {
+  cache = λ x m. absurd (subst (Among x) cache m);
+  hand = λ o place m. absurd m;
+}
 
 -- and no object came
 pub boot_arrived : (t : Tables) → t.came ≡ [] → (a : Arrival) → weigh (brought a) (at_rest t) ≤ weigh (moved_by a) (at_rest t)

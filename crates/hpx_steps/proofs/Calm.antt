@@ -13,7 +13,7 @@ told_as r s s' e t x y same now k = subst (λ z. Keeps r s s' (e z)) (sym same) 
 
 -- most numbers stay
 abbrev pub SameNumbers : Tables → Tables → Type 0
-SameNumbers t t' = t' ≡ record t { accepted = t'.accepted; running = t'.running; pending = t'.pending; desk = t'.desk; outgoing = t'.outgoing; queued = t'.queued; leaving = t'.leaving; stray = t'.stray; came = t'.came; objects = t'.objects; records = t'.records }
+SameNumbers t t' = t' ≡ record t { accepted = t'.accepted; running = t'.running; pending = t'.pending; desk = t'.desk; outgoing = t'.outgoing; queued = t'.queued; leaving = t'.leaving; stray = t'.stray; came = t'.came; objects = t'.objects; records = t'.records; cache = t'.cache }
 
 -- those that may grow
 abbrev pub NearNumbers : Tables → Tables → Type 0

@@ -151,7 +151,7 @@ module _ (r : Rules) (s : Turn) (entries : List Entry) (h : IsSound r s entries)
   tidy : IsTidy now
   tidy = holding (TidyAt now) sent mid now (then (StandsHere x ∷ []) [] [] sent mid less now
       (objects_change (StandsHere x ∷ []) [] mid (remove s.tables.objects j) (one_goes (λ y. StandsHere y) s.tables.objects j x stands)) (mail_change true to ship less)).1 retidied
-      (mail_tidy now.tables true to ship (λ b. fit) (λ b. (move_to-bare act ∙ goes_to, away)) (λ b. tt) (λ b other. tt))
+      (mail_tidy now.tables true to ship (λ b. fit) (λ b. (move_to-bare act ∙ goes_to, away)) (λ b. tt) (λ b other. tt) (λ b. tt))
 
   -- ---- what is seen
 

@@ -1,10 +1,11 @@
 -- What calls do is one step after another.
-use Rattle.hpx_steps.proofs.Common.{moving_here, Arrived, Go, Landed, Mark, Shipped, State, Turns, append-nil, eq-eqb, is_to, lowered, may_land, move_to, name_of, nat_le, not, stays_here, target_of, with_mail_if, ◌||◌, free_rule, subst, bare, Accept, Begin, IsStray, Park, Queue, To, Way, accepts, parked, way, with_own, with_way, Act, Apply, Ask, Bool, Count, DealsWith, Due, Event, Free, Freed, Give, Given, Gives, Granted, HasCredit, HasInHand, HasLeastCredit, Id, IsCalm, IsTold, Label, Leaves, List, MatchOption, MessageDue, Move, None, Option, Parcel, Place, Print, PrintDue, Record, Refused, Reorder, Return, Returned, Rules, Sent, Some, Standing, Step, Steps, Tables, Turn, Up, Writes, [], and_true, answered, ap, arith, brings_right, cond, count_here, credit, credit_of_log, draws, drops, eqb-true, false, find, find_record, freed, goes_on, held_here, ids_in, is_live, is_some, is_standing, length, log_of, mails, map, map-append, more_here, nat_lt, nat_tests, option_and_then, option_map, option_map_or, place_or_0, posts, pow_pos, raised, record_here, refl, remove, returned, set, slice_get, stands_here, suc, sym, true, up_of, ups, waits_here, with_act, with_credit, with_due, with_mail, with_return, with_returns, without, written, written_by, written_due, wrote, ℕ, ◌++◌, ◌+◌, ◌-◌, ◌<◌, ◌==◌, ◌^◌, ◌∙◌, ◌∷◌, ◌≡◌, ◌≢◌, ◌≤◌, ◌⊎◌, inl, inr, away_here}
+use Rattle.hpx_steps.proofs.Common.{Cached, moving_here, Arrived, Go, Landed, Mark, Shipped, State, Turns, append-nil, eq-eqb, is_to, lowered, may_land, move_to, name_of, nat_le, not, stays_here, target_of, with_mail_if, ◌||◌, free_rule, subst, bare, Accept, Begin, IsStray, Park, Queue, To, Way, accepts, parked, way, with_own, with_way, Act, Apply, Ask, Bool, Count, DealsWith, Due, Event, Free, Freed, Give, Given, Gives, Granted, HasCredit, HasInHand, HasLeastCredit, Id, IsCalm, IsTold, Label, Leaves, List, MatchOption, MessageDue, Move, None, Option, Parcel, Place, Print, PrintDue, Record, Refused, Reorder, Return, Returned, Rules, Sent, Some, Standing, Step, Steps, Tables, Turn, Up, Writes, [], and_true, answered, ap, arith, brings_right, cond, count_here, credit, credit_of_log, draws, drops, eqb-true, false, find, find_record, freed, goes_on, held_here, ids_in, is_live, is_some, is_standing, length, log_of, mails, map, map-append, more_here, nat_lt, nat_tests, option_and_then, option_map, option_map_or, place_or_0, posts, pow_pos, raised, record_here, refl, remove, returned, set, slice_get, stands_here, suc, sym, true, up_of, ups, waits_here, with_act, with_credit, with_due, with_mail, with_return, with_returns, without, written, written_by, written_due, wrote, ℕ, ◌++◌, ◌+◌, ◌-◌, ◌<◌, ◌==◌, ◌^◌, ◌∙◌, ◌∷◌, ◌≡◌, ◌≢◌, ◌≤◌, ◌⊎◌, inl, inr, away_here}
 use Rattle.std.proofs.lemmas.Bool.{leb-false}
 use Rattle.hpx_steps.proofs.Tools.{flat_append, if_so}
 use Rattle.std.specs.List.Sorted.{IsPermutation}
 use Rattle.hpx_value.specs.Values.{named}
 use Rattle.hpx_steps.proofs.Right.{free_right}
+use Rattle.hpx_steps.specs.Steps.{Learn}
 
 pub steps_append : (r : Rules) (s m s' : Turn) (xs ys : List Label) → Steps r s xs m → Steps r m ys s' → Steps r s (xs ++ ys) s'
 steps_append r s m s' [] ys a b = subst (λ x. Steps r x ys s') a b
@@ -58,7 +59,7 @@ due_steps r s (MessageDue m ∷ due) fresh =
     let now : Turn = wrote (Sent (record { origin = s.tables.here; serial = s.tables.serial + 1 })) (posts (named s.tables.here (s.tables.serial + 1) m) (draws (record s { due = due }))) in
     let more = due_steps r (record s { tables = now.tables; last = now.last }) due fresh in (
       more.0,
-      (now, record { fresh = fresh; message = m; rest = due; due = refl; name = refl; now = refl }, more.1),
+      (now, inl (record { fresh = fresh; message = m; rest = due; due = refl; name = refl; now = refl }), more.1),
     )
 due_steps r s (PrintDue bytes ∷ due) fresh =
     let now : Turn = wrote (Print bytes) (record s { due = due }) in
@@ -206,6 +207,15 @@ module _ (r : Rules) (s : Turn) (calm : IsCalm s) (t' : Tables) where
     labels = Mark ∷ [];
     writes = refl;
     steps = (record (drops s) { tables = t' }, record { act = act; hand = hand; stays = stays; away = away; now = ap (λ t. record (drops s) { tables = t }) deals }, refl);
+  }
+
+  -- where an object is said to be is learned
+  pub learned_leads : (id : Id) (place : ℕ) → HasInHand (Cached id place) s → DealsWith (Cached id place) s.tables t' → Leads r s s.landed t' []
+  learned_leads id place hand deals = record {
+    last = s.last;
+    labels = Learn ∷ [];
+    writes = refl;
+    steps = (record (drops s) { tables = t' }, record { id = id; place = place; hand = hand; now = ap (λ t. record (drops s) { tables = t }) deals }, refl);
   }
 
   -- an object comes

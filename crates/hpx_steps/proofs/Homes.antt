@@ -1,14 +1,16 @@
 -- What waits for an object, and what is on the own desk: each step keeps what is known of them.
-use Rattle.hpx_steps.proofs.Common.{HasPlaces, IsTidy, Outgoing, append-nil, going, goes_away, leaves_here, list_any, grants, Accept, Act, Among, Apply, AreRules, Arrived, Arrives, Ask, Asked, Bears, Begin, Bool, Born, Count, Done, Entry, Event, Fire, Free, Freed, Give, Given, Go, Granted, Id, In, IsFlowing, IsSound, Label, Landed, Left, Line, List, Looked, Mail, Mark, Merge, Move, None, Option, Out, Parcel, Park, Parks, Pause, Place, Print, Queue, Record, Recounts, Refused, Release, Reorder, Return, Returned, Rules, Sent, Shipped, Single, Some, Split, StandsFor, State, Step, Suspend, Tables, TakesBack, TakesUp, To, Turn, Up, Waiting, Way, Writes, [], act_in, ap, append_assoc, arith, bare, begins, cases_lt, comes_home, cond, credit, draws, drops, false, false_from, find_record, inl, inr, is_other, is_some, line_act, lowered, mails, mails_if, move_by, move_to, move_way, nat_lt, not, parcel_for, part, posts, queues, raised, record_here, refl, same_object, same_object-true, sends, some_same, stays_here, subst, sym, target_of, true, view, waits, way, way_by, way_of, way_to, with_act, with_last, with_records, with_way, without_first, wrote, ℕ, ◌&&◌, ◌++◌, ◌+◌, ◌-◌, ◌<◌, ◌==◌, ◌^◌, ◌||◌, ◌∙◌, ◌∷◌, ◌≡◌, ◌≤◌, ◌⊎◌}
+use Rattle.hpx_steps.proofs.Common.{Cached, Name, eq-eqb, nat_le, nat_tests, HasPlaces, IsTidy, Outgoing, append-nil, going, goes_away, leaves_here, list_any, grants, Accept, Act, Among, Apply, AreRules, Arrived, Arrives, Ask, Asked, Bears, Begin, Bool, Born, Count, Done, Entry, Event, Fire, Free, Freed, Give, Given, Go, Granted, Id, In, IsFlowing, IsSound, Label, Landed, Left, Line, List, Looked, Mail, Mark, Merge, Move, None, Option, Out, Parcel, Park, Parks, Pause, Place, Print, Queue, Record, Recounts, Refused, Release, Reorder, Return, Returned, Rules, Sent, Shipped, Single, Some, Split, StandsFor, State, Step, Suspend, Tables, TakesBack, TakesUp, To, Turn, Up, Waiting, Way, Writes, [], act_in, ap, append_assoc, arith, bare, begins, cases_lt, comes_home, cond, credit, draws, drops, false, false_from, find_record, inl, inr, is_other, is_some, line_act, lowered, mails, mails_if, move_by, move_to, move_way, nat_lt, not, parcel_for, part, posts, queues, raised, record_here, refl, same_object, same_object-true, sends, some_same, stays_here, subst, sym, target_of, true, view, waits, way, way_by, way_of, way_to, with_act, with_last, with_records, with_way, without_first, wrote, ℕ, ◌&&◌, ◌++◌, ◌+◌, ◌-◌, ◌<◌, ◌==◌, ◌^◌, ◌||◌, ◌∙◌, ◌∷◌, ◌≡◌, ◌≤◌, ◌⊎◌}
 use Rattle.hpx_value.specs.declared.profile.Profile.{Profile}
 use Rattle.hpx_steps.proofs.ByRows.{if_so}
 use Rattle.hpx_steps.proofs.Changes.{among_either, first_leaves, last_comes}
 use Rattle.hpx_steps.proofs.Puts.{Goes, as_parcel, remade_others, remade_own, root_stays, way_goes}
 use Rattle.hpx_steps.proofs.Onward.{IsBound, gone_more, had_more, had_now, out_had, sent_bound, waits_now}
+use Rattle.hpx_steps.proofs.SentOn.{IsAsked, asked_is, not_here}
 use Rattle.hpx_steps.proofs.Stranded.{IsStranded, stranded_now, way_strands}
-use Rattle.hpx_steps.specs.Homes.{HasHomes, IsOwnMail, WaitsWell, WasStranded}
+use Rattle.hpx_steps.specs.Cache.{elsewhere}
+use Rattle.hpx_steps.specs.Homes.{HasHeard, HasHomes, IsOwnMail, WaitsWell, WasStranded}
 use Rattle.hpx_steps.specs.Onward.{Carries, HadToGo, HaveGone, WaitsAt}
-use Rattle.hpx_steps.specs.Steps.{GoesOut, Settle, Settles}
+use Rattle.hpx_steps.specs.Steps.{Forget, GoesOut, Hint, Learn, SendsOn, Settle, Settles, goes_to}
 use Rattle.hpx_value.specs.Values.{named}
 use Rattle.hpx_steps.specs.Sound.{IsPaid}
 
@@ -30,16 +32,17 @@ pub data Adds (r : Rules) (s s' : Turn) : List Entry → Type 0 where
 -- what was on its way is so still, and had to go there
 module _ (r : Rules) (s s' : Turn) (entries entries' : List Entry) (h : HasHomes r s (part s.tables.here entries)) (k : Homes s s')
     (places : HasPlaces s'.tables.here s'.tables.births s'.tables.objects s'.tables.records s'.tables.leaving) (tidy : IsTidy s') (here : s'.tables.here ≡ s.tables.here)
-    (rules : AreRules r s'.tables) (keeps : StandsFor r (view s') entries') (flowing : IsFlowing r s' (part s'.tables.here entries')) (paid : IsPaid r s' (part s'.tables.here entries')) where
+    (rules : AreRules r s'.tables) (keeps : StandsFor r (view s') entries') (flowing : IsFlowing r s' (part s'.tables.here entries')) (paid : IsPaid r s' (part s'.tables.here entries'))
+    (heard : HasHeard r s' (part s'.tables.here entries')) where
   going_then : (more : List Entry) → Adds r s s' more → part s'.tables.here entries' ≡ part s.tables.here entries ++ more → (x : Outgoing) (act : Act) → Among x s'.tables.outgoing
       → Carries act x.parcel → HadToGo r s'.tables.here x.to (part s'.tables.here entries') act
   going_then more adds grown x act m c = elim (k.going x act m c) [
     | inl was ↦ each more adds grown (h.going x act was c)
-    | inr now ↦ had_now r s' entries' rules keeps places flowing tidy paid x act c m now
+    | inr now ↦ had_now r s' entries' rules keeps places flowing tidy paid heard x act c m now
   ]
     where
       waits : WaitsAt r s'.tables.here (part s'.tables.here entries') act
-      waits = waits_now r s' entries' rules keeps places flowing tidy paid x act c m
+      waits = waits_now r s' entries' rules keeps places flowing tidy paid heard x act c m
 
       each : (more : List Entry) → Adds r s s' more → part s'.tables.here entries' ≡ part s.tables.here entries ++ more → HadToGo r s.tables.here x.to (part s.tables.here entries) act
           → HadToGo r s'.tables.here x.to (part s'.tables.here entries') act
@@ -60,8 +63,8 @@ module _ (r : Rules) (s s' : Turn) (entries entries' : List Entry) (h : HasHomes
 pub homes_then : (r : Rules) (s s' : Turn) (entries entries' more : List Entry) → Adds r s s' more → part s'.tables.here entries' ≡ part s.tables.here entries ++ more
     → s'.tables.here ≡ s.tables.here → HasHomes r s (part s.tables.here entries) → Homes s s'
     → HasPlaces s'.tables.here s'.tables.births s'.tables.objects s'.tables.records s'.tables.leaving → IsTidy s' → AreRules r s'.tables → StandsFor r (view s') entries'
-    → IsFlowing r s' (part s'.tables.here entries') → IsPaid r s' (part s'.tables.here entries') → HasHomes r s' (part s'.tables.here entries')
-homes_then r s s' entries entries' more adds grown here h k places tidy rules keeps flowing paid = record {
+    → IsFlowing r s' (part s'.tables.here entries') → IsPaid r s' (part s'.tables.here entries') → HasHeard r s' (part s'.tables.here entries') → HasHomes r s' (part s'.tables.here entries')
+homes_then r s s' entries entries' more adds grown here h k places tidy rules keeps flowing paid heard = record {
   waits = k.waits;
   own = λ p act brings is. elim (k.own p is) [
     | inl was ↦
@@ -75,8 +78,8 @@ homes_then r s s' entries entries' more adds grown here h k places tidy rules ke
         })
     | inr now ↦ stranded_now r s' entries' rules keeps places.single flowing p act brings is (now act brings)
   ];
-  going = going_then r s s' entries entries' h k places tidy here rules keeps flowing paid more adds grown;
-  gone = gone_then r s s' entries entries' h k places tidy here rules keeps flowing paid more adds grown;
+  going = going_then r s s' entries entries' h k places tidy here rules keeps flowing paid heard more adds grown;
+  gone = gone_then r s s' entries entries' h k places tidy here rules keeps flowing paid heard more adds grown;
 }
 
 -- ---- messages that carry no action to its object
@@ -103,6 +106,11 @@ other_arrived : (id : Id) (place : ℕ) → IsOther (Arrived id place)
 other_arrived id place act (inl e) = cc
 other_arrived id place act (inr (inl e)) = cc
 other_arrived id place act (inr (inr e)) = cc
+
+other_cached : (o : Id) (place : ℕ) → IsOther (Cached o place)
+other_cached o place act (inl e) = cc
+other_cached o place act (inr (inl e)) = cc
+other_cached o place act (inr (inr e)) = cc
 
 other_free : (o : Id) → IsOther (Free o)
 other_free o act (inl e) = cc
@@ -489,6 +497,53 @@ module _ (s : Turn) (entries : List Entry) (r : Rules) (h : IsSound r s entries)
     going = λ x act m c. inl m;
   })
 
+  -- an action goes to where its object was said to be
+  sent_on : (s' : Turn) (a : Name) → SendsOn s a s' → Homes s s'
+  sent_on s' a g = subst (Homes s) (sym g.now) (record { waits = same_waits now refl refl (omega arith) refl; own = λ p m. inl m; going = going })
+    where
+      act : Act
+      act = named s.tables.here (s.tables.serial + 1) g.message
+
+      now : Turn
+      now = wrote (Sent a) (goes_to g.place (Apply (named s.tables.here (s.tables.serial + 1) g.message)) (draws (record s { due = g.rest })))
+
+      its : IsAsked s act
+      its = asked_is s act g.asks
+
+      found : (at : Option ℕ) → elsewhere s.tables.here at ≡ Some g.place → at ≡ Some g.place
+      found None e = absurd (cc)
+      found (Some p) e = if_so (p == s.tables.here) (λ u. absurd (let k : ◌≡◌ {A = Option ℕ} None (Some g.place) = rw u at e in cc)) (λ u. rw u at e)
+
+      bound : IsBound now.tables g.place act
+      bound = record {
+        other = not_here s.tables.here g.place _ g.hit;
+        off = inl its.leaves;
+        way = inr (inr (record {
+          own = refl;
+          plain = λ e. absurd (let k : true ≡ false = sym (eq-eqb act.code 1 e) ∙ its.other in cc);
+          managed = (let k = its.managed in search (arith, nat_tests, k));
+          away = λ e. absurd (let k : true ≡ false = sym (eq-eqb (target_of act).home s.tables.here e) ∙ its.away in cc);
+          found = found _ g.hit;
+        }));
+      }
+
+      going : (x : Outgoing) (b : Act) → Among x now.tables.outgoing → Carries b x.parcel → Among x s.tables.outgoing ⊎ IsBound now.tables x.to b
+      going x b m c = elim (among_either x s.tables.outgoing (going_to ∷ []) m) [
+        | inl was ↦ inl was
+        | inr new ↦ elim new [ inl is ↦ inr (its_way x b is c) | inr n ↦ absurd n ]
+      ]
+        where
+          going_to : Outgoing
+          going_to = record { to = g.place; parcel = Apply act }
+
+          same : (d : Act) → Carries d (Apply act) → act ≡ d
+          same d (inl e) = cc
+          same d (inr (inl e)) = absurd (let z : Apply act ≡ Move d = e in cc)
+          same d (inr (inr e)) = absurd (let z : Apply act ≡ Go d = e in cc)
+
+          its_way : (y : Outgoing) (d : Act) → going_to ≡ y → Carries d y.parcel → IsBound now.tables y.to d
+          its_way y d is k = subst (λ (z : Outgoing). IsBound now.tables z.to d) is (subst (IsBound now.tables g.place) (same d (subst (λ (z : Outgoing). Carries d z.parcel) (sym is) k)) bound)
+
   pub step_homes : (s' : Turn) (label : Label) → Step r s label s' → Homes s s'
   step_homes s' (Writes (Line a bytes)) g = subst (Homes s) (sym g.now)
       (posted (draws s) (wrote (Line a bytes) (posts (line_act a bytes) (draws s))) (line_act a bytes) refl refl refl refl refl refl (λ w m. m) refl refl refl (λ p m. m) refl refl refl)
@@ -497,9 +552,12 @@ module _ (s : Turn) (entries : List Entry) (r : Rules) (h : IsSound r s entries)
   step_homes s' (Writes (Born o state)) g = bears s' o state g
   step_homes s' (Writes (Done a false)) g = subst (Homes s) (sym g.now) (quiet _ (λ x m. m) refl refl refl refl (λ p m. m))
   step_homes s' (Writes (Done a true)) g = subst (Homes s) (sym g.now) (quiet _ (λ x m. m) refl refl refl refl (λ p m. m))
-  step_homes s' (Writes (Sent a)) g =
-      let act = named s.tables.here (s.tables.serial + 1) g.message in subst (Homes s) (sym g.now)
-      (posted (draws (record s { due = g.rest })) (wrote (Sent a) (posts act (draws (record s { due = g.rest })))) act refl refl refl refl refl refl (λ w m. m) refl refl refl (λ p m. m) refl refl refl)
+  step_homes s' (Writes (Sent a)) g = elim g [
+    | inl k ↦
+        let act = named s.tables.here (s.tables.serial + 1) k.message in subst (Homes s) (sym k.now)
+        (posted (draws (record s { due = k.rest })) (wrote (Sent a) (posts act (draws (record s { due = k.rest })))) act refl refl refl refl refl refl (λ w m. m) refl refl refl (λ p m. m) refl refl refl)
+    | inr k ↦ sent_on s' a k
+  ]
   step_homes s' (Writes (Print bytes)) g = subst (Homes s) (sym g.now) (quiet _ (λ x m. m) refl refl refl refl (λ p m. m))
   step_homes s' (Writes (Merge o log)) g = subst (Homes s) (sym g.now) (quiet _ (λ x m. m) refl refl refl refl (λ p m. m))
   step_homes s' (Writes (Up o log)) g = elim g [
@@ -525,7 +583,7 @@ module _ (s : Turn) (entries : List Entry) (r : Rules) (h : IsSound r s entries)
   step_homes s' (Writes (Left o to)) g = subst (Homes s) (sym g.now) (mailing _ (cond (is_other s.tables to) false true) (is_other s.tables to) to (Shipped g.act g.x.state) refl refl refl refl refl (λ p m. m) refl
       (sent_desk (is_other s.tables to) (Shipped g.act g.x.state) s.tables.desk) (other_object g.act g.x.state))
   step_homes s' (Writes (Landed o)) g = subst (Homes s) (sym g.now) (quiet _ (λ x m. m) refl refl refl refl dropped)
-  step_homes s' (Writes (Looked o found)) g = absurd g
+  step_homes s' (Writes (Looked o found)) g = subst (Homes s) (sym g.now) (quiet _ (λ x m. m) refl refl refl refl (λ p m. m))
   step_homes s' Suspend g = subst (Homes s) (sym g.now) (quiet _ (λ x m. m) refl refl refl refl (λ p m. m))
   step_homes s' Pause g = subst (Homes s) (sym g.now) (quiet _ (λ x m. m) refl refl refl refl (λ p m. m))
   step_homes s' Place g = subst (Homes s) (sym g.now)
@@ -539,4 +597,7 @@ module _ (s : Turn) (entries : List Entry) (r : Rules) (h : IsSound r s entries)
         | inr k ↦ absurd k
       ]) refl refl refl (λ p m. m) refl refl refl)
   step_homes s' Settle g = settles s' g
+  step_homes s' Learn g = subst (Homes s) (sym g.now) (quiet _ (λ x m. m) refl refl refl refl dropped)
+  step_homes s' Forget g = subst (Homes s) (sym g.now) (quiet _ (λ x m. m) refl refl refl refl (λ p m. m))
+  step_homes s' Hint g = subst (Homes s) (sym g.now) (mailing _ false true g.to (Cached g.o g.place) refl refl refl refl refl (λ p m. m) refl (sym (append-nil s.tables.desk)) (other_cached g.o g.place))
   step_homes s' Reorder g = subst (Homes s) (sym g.now) (quiet _ (λ x m. m) refl refl refl refl (λ p m. m))

@@ -24,6 +24,11 @@ pub mod In
 pub mod Out
 pub mod Fire
 pub mod Sent
+pub mod SentOn
+pub mod Look
+pub mod Learned
+pub mod Dues
+pub mod Taken
 pub mod Records
 pub mod Returned
 pub mod Print
@@ -46,6 +51,7 @@ pub mod Given
 pub mod Unheld
 pub mod Freed
 pub mod Stranded
+pub mod Heard
 pub mod Onward
 pub mod Homes
 pub mod Step

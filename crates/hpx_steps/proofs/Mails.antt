@@ -1,6 +1,6 @@
 -- One more message: what it weighs and that it is tidy, wherever it is put.
 use Rattle.hpx_steps.proofs.Common.{AllByRecursion, Bool, Came, Going, HasInHand, Id, IsOwn, IsParcel, IsTidy, IsTidyIn, Item, Mailed, MatchOption, MayGoTo, OnDesk, Option, Parcel, Some, Tables, Token, Turn, [], arith, bare, cond, credit_list, false, going, held_token, inl, inr, is_other, log_of, map, nat_tests, owed_token, owing, own, refl, sum_by, tokens_of, true, ℕ, ◌++◌, ◌<◌, ◌∷◌, ◌≡◌, ◌≢◌, ◌≤◌, Apply, Move, Return, Ask, Give, Cached, Go, Shipped, Arrived, Free, Flow, flow_in, flow_go}
-use Rattle.hpx_steps.specs.Frames.{IsGrantFor}
+use Rattle.hpx_steps.specs.Frames.{IsGrantFor, IsNearPlace}
 use Rattle.hpx_steps.proofs.Changes.{sent_if, total}
 use Rattle.hpx_steps.proofs.ByRows.{by_flows}
 
@@ -19,9 +19,9 @@ pub own_is : (t : Tables) (to : ℕ) → is_other t to ≡ false → to < t.loca
 own_is t to h lt = grind (arith, nat_tests)
 
 pub mail_tidy : (t : Tables) (b : Bool) (to : ℕ) (p : Parcel) → (b ≡ true → IsParcel p) → (b ≡ true → MayGoTo t.here to p)
-    → (b ≡ true → IsOwn t.here t.profile.credit_log p) → (b ≡ true → is_other t to ≡ false → IsGrantFor t.here to p)
+    → (b ≡ true → IsOwn t.here t.profile.credit_log p) → (b ≡ true → is_other t to ≡ false → IsGrantFor t.here to p) → (b ≡ true → IsNearPlace t.localities p)
     → AllByRecursion (IsTidyIn t.here t.localities t.profile.credit_log t.births t.objects) (sent_if b (is_other t to) to p)
-mail_tidy t b to p fit may own granted = grind arith
+mail_tidy t b to p fit may own granted near = grind arith
 
 -- ---- the token of an id
 

@@ -2,7 +2,10 @@
 use Rattle.hpx_steps.proofs.Common.{Accept, Act, Among, Apply, AreRules, Begin, Bool, Entry, Event, Go, Going, HasPlaces, Id, IfSome, IsFlowing, IsParcel, IsTidy, Leaving, List, Local, Move, None, Option, Out, Outgoing, Parcel, PlacedAt, Queue, Record, Rules, Shows, Some, StandsFor, Tables, To, Turn, Way, [], and_true, ap, append-nil, append_assoc, arith, at_boot, bare_act, begins, cond, counted, eq-eqb, eqb-true, false, find_record, flat_map, flow, flow_comes, flow_goes, goes_away, going, grants, inl, inr, is_movable, is_other, is_some, leaves_here, list_any, map, messages, move_by, move_to, nat_le, nat_lt, nat_tests, ne_eqb, not, one_if, option_map_or, own_parcels, parcel_acts, parcel_for, parcels, part, queued_parcels, record_here, record_moves, record_rests, refl, remade, run_local, same_object, same_object-refl, sends, stands_here, stays_here, subst, sum_by, sum_by-cons, sym, target_of, true, view, waiting, way, way_by, way_of, way_to, weigh, with_way, ℕ, ◌&&◌, ◌++◌, ◌+◌, ◌<◌, ◌==◌, ◌||◌, ◌∙◌, ◌∷◌, ◌≡◌, ◌≢◌, ◌≤◌, ◌⊎◌}
 use Rattle.hpx_journal.specs.Entries.{place_in}
 use Rattle.hpx_parcel.specs.Parcels.{IsMove}
+use Rattle.std.specs.Map.{lookup}
 use Rattle.hpx_steps.proofs.ByRows.{if_so}
+use Rattle.hpx_steps.proofs.Heard.{found_said}
+use Rattle.hpx_steps.specs.Homes.{HasHeard}
 use Rattle.hpx_steps.proofs.Changes.{among_either, among_left, among_right}
 use Rattle.hpx_steps.proofs.Puts.{as_parcel, move_to-bare, none_moving, not_home, or_parts, remade_own, target-bare, target_big, to_same, way_goes}
 use Rattle.hpx_steps.proofs.Records.{found_counted}
@@ -36,13 +39,21 @@ RestsAt t o to = (o.home ≡ to) ⊎ ((o.home ≡ t.here) × (x : Record) × (re
 abbrev IsOff : Tables → Act → Type 0
 IsOff t act = (stays_here t (target_of act) ≡ false) ⊎ MovesFrom t.here (target_of act) act
 
+-- an action of here, which is no MOVE, on a managed object of another home: the cache says that this is there
+pub record IsSaid (t : Tables) (to : ℕ) (act : Act) : Type 0 where
+  pub own : act.origin ≡ t.here
+  pub plain : act.code ≢ 1
+  pub managed : 16 ≤ (target_of act).kind
+  pub away : (target_of act).home ≢ t.here
+  pub found : lookup (same_object (target_of act)) t.cache ≡ Some to
+
 -- an action has to go on to another locality: its object does not stay here, or it moves that from here; and that locality is the home of its object,
--- or a record here says that this rests there, or a move of it from there is on its way
+-- or a record here says that this rests there, or a move of it from there is on its way, or the cache says so
 pub record IsBound (t : Tables) (to : ℕ) (act : Act) : Type 0 where
   pub other : to ≢ t.here
   pub off : IsOff t act
-  pub way : ((target_of act).home ≡ to) ⊎ (((target_of act).home ≡ t.here) × (x : Record) × (record_here t (target_of act) ≡ Some x)
-      × (((x.moving ≡ None) × (x.place ≡ to)) ⊎ Among (going to (Go act)) t.outgoing))
+  pub way : ((target_of act).home ≡ to) ⊎ ((((target_of act).home ≡ t.here) × (x : Record) × (record_here t (target_of act) ≡ Some x)
+      × (((x.moving ≡ None) × (x.place ≡ to)) ⊎ Among (going to (Go act)) t.outgoing)) ⊎ IsSaid t to act)
 
 other_not : (t : Tables) (to : ℕ) → is_other t to ≡ true → to ≢ t.here
 other_not t to h = λ e. let k : not (to == t.here) ≡ true = (and_true (nat_lt to t.localities) (not (to == t.here)) h).1 in
@@ -95,7 +106,7 @@ to_bound t act to e other =
       off = k.0;
       way = elim k.1 [
         | inl home ↦ inl home
-        | inr at ↦ inr (at.0, at.1, at.2, inl at.3)
+        | inr at ↦ inr (inl (at.0, at.1, at.2, inl at.3))
       ];
     }
 
@@ -104,12 +115,12 @@ begin_bound t act place e other =
     let g = (way_goes t act).begin place e in record {
       other = other_not t place other;
       off = begin_off t act place e;
-      way = inr (
+      way = inr (inl (
         sym g.0,
         record g.1.2.old { moving = move_to act },
         remade_own (target_of act) (λ r. record r { moving = move_to act }) (λ r. refl) g.1.2.old t.records g.1.2.was,
         inr (among_right (going place (Go act)) t.outgoing (goes_away t (Some (place, Go act))) (rw other (inl refl))),
-      );
+      ));
     }
 
 -- a message that carries an action is of this one
@@ -180,7 +191,7 @@ leaving_counts o to act (p ∷ ps) moves (inr m) =
     omega (arith, leaving_counts o to act ps moves m, sum_by-cons (λ q. unpaid (GosOf o to) (Leaving q)) p ps)
 
 module _ (r : Rules) (s : Turn) (entries : List Entry) (rules : AreRules r s.tables) (keeps : StandsFor r (view s) entries)
-    (places : HasPlaces s.tables.here s.tables.births s.tables.objects s.tables.records s.tables.leaving) (flowing : IsFlowing r s (part s.tables.here entries)) (tidy : IsTidy s) (paid : IsPaid r s (part s.tables.here entries)) where
+    (places : HasPlaces s.tables.here s.tables.births s.tables.objects s.tables.records s.tables.leaving) (flowing : IsFlowing r s (part s.tables.here entries)) (tidy : IsTidy s) (paid : IsPaid r s (part s.tables.here entries)) (heard : HasHeard r s (part s.tables.here entries)) where
   abbrev here : ℕ
   here = s.tables.here
 
@@ -288,7 +299,16 @@ module _ (r : Rules) (s : Turn) (entries : List Entry) (rules : AreRules r s.tab
     ];
     way = elim k.way [
       | inl home ↦ inl home
-      | inr at ↦ inr (at.0, known_now act to l shows k.other at.0 at.1 at.2 at.3)
+      | inr on ↦ elim on [
+        | inl at ↦ inr (inl (at.0, known_now act to l shows k.other at.0 at.1 at.2 at.3))
+        | inr said ↦ inr (inr (record {
+          own = said.own;
+          plain = said.plain;
+          managed = said.managed;
+          away = said.away;
+          said = (found_said r s (part s.tables.here entries) (target_of act) to heard said.found).1;
+        }))
+      ]
     ];
   }
 

@@ -2,7 +2,7 @@
 use Rattle.hpx_steps.proofs.Common.{follows, same_object-from, Among, Apply, Arrived, Ask, Cached, Free, Give, IsMovable, IsTidy, Leaving, Return, Shipped, Turn, false_from, grants, list_any, ◌<◌, Accept, Accepted, Act, AllByRecursion, Begin, Bool, Go, Going, HasPlaces, Id, IfSome, IsFit, IsGranted, IsMove, IsOwn, IsParcel, IsTidyIn, IsWaitingFor, Item, List, MayGoTo, Move, None, OnDesk, Option, Parcel, Queue, Queued, Record, Recounts, Row, Some, Tables, To, Way, [], and_true, ap, arith, bare, bare_act, begins, brings, cond, counted, eq-eqb, eqb-true, false, find_record, going, id_at, inl, inr, is_movable, is_other, is_some, kept, kind_of, leaves_here, map, move_by, move_to, nat_lt, not, of_act, one_if, parcel_for, place_in, record_here, refl, remade, same_object, same_object-sym, same_object-true, some_same, stands_here, stays_here, subst, sym, target_of, true, way, way_by, way_to, waits, weight, ℕ, ◌&&◌, ◌==◌, ◌||◌, ◌∙◌, ◌∷◌, ◌≡◌, ◌≢◌, ◌≤◌, ◌⊎◌, Waiting, act_in, grants_here, queues, sent_as, weigh, ◌+◌, is_away, away_here, leads_away, option_map_or, leads_on, tells_come, Rules, Event, Flow, MovesTo, PlacedAt, flow, flow_comes, flow_goes, flow_of, go_for, record_moves, record_rests, moves_to, is_to, nat_tests, tells_own, EndsAt, dies, IsLive}
 use Rattle.hpx_steps.proofs.ByRows.{by_bool, if_so, by_flows, eq_turned}
 use Rattle.hpx_steps.proofs.Changes.{put_as, sent_if, last_comes}
-use Rattle.hpx_steps.specs.Frames.{IsGrantFor}
+use Rattle.hpx_steps.specs.Frames.{IsGrantFor, IsNearPlace}
 use Rattle.hpx_steps.proofs.Mails.{mail_tidy, IsFlowless, flowless, own_is}
 use Rattle.hpx_steps.proofs.Records.{places_still, away_in}
 use Rattle.hpx_steps.proofs.Then.{Tracks, Says, Flows, all_flows, of_event}
@@ -202,7 +202,7 @@ goes t o (Some to) = if_so (stays_here t o && (to == t.here))
 -- where a message may go that carries it
 pub goes_letter : (t : Tables) (act : Act) (to : ℕ) → (to ≡ (target_of act).home) ⊎ ((t.here ≡ (target_of act).home) × IfSome (move_to act) (λ p. p ≡ to)) → MayGoTo t.here to (parcel_for act)
 goes_letter t act to (inl home) = as_parcel (MayGoTo t.here to) act (inl home) (inl home)
-goes_letter t act to (inr own) = as_parcel (MayGoTo t.here to) act (inr own.0) (inr (own.0, subst (λ (m : Option ℕ). IfSome m (λ p. p ≡ to)) (sym (move_to-bare act)) own.1))
+goes_letter t act to (inr own) = as_parcel (MayGoTo t.here to) act (inr (inl own.0)) (inr (own.0, subst (λ (m : Option ℕ). IfSome m (λ p. p ≡ to)) (sym (move_to-bare act)) own.1))
 
 pub way_goes : (t : Tables) (act : Act) → Goes t (target_of act) (move_to act) (way t act)
 way_goes t act = goes t (target_of act) (move_to act)
@@ -231,9 +231,13 @@ target_big act fit = each act.ids fit.target
 pub put_tidy : (t : Tables) (act : Act) → IsFit act → ((o : Id) (x : Record) → find_record o t.records ≡ Some x → (x.place ≡ t.here) ⊎ (x.place < t.localities)) → IsTidyIn t.here t.localities t.profile.credit_log t.births t.objects (put_as t (way t act) act)
 put_tidy t act fit near = each (way t act) (way_goes t act)
   where
-    sent : (to : ℕ) (p : Parcel) → IsParcel p → MayGoTo t.here to p → IsOwn t.here t.profile.credit_log p → (is_other t to ≡ false → IsGrantFor t.here to p)
+    sent : (to : ℕ) (p : Parcel) → IsParcel p → MayGoTo t.here to p → IsOwn t.here t.profile.credit_log p → (is_other t to ≡ false → IsGrantFor t.here to p) → IsNearPlace t.localities p
         → AllByRecursion (IsTidyIn t.here t.localities t.profile.credit_log t.births t.objects) (sent_if true (is_other t to) to p)
-    sent to p fits may own granted = mail_tidy t true to p (λ b. fits) (λ b. may) (λ b. own) (λ b. granted)
+    sent to p fits may own granted near = mail_tidy t true to p (λ b. fits) (λ b. may) (λ b. own) (λ b. granted) (λ b. near)
+
+    by_home : {to : ℕ} → (to ≡ (target_of act).home) ⊎ ((t.here ≡ (target_of act).home) × IfSome (move_to act) (λ p. p ≡ to)) → (to ≡ (target_of act).home) ⊎ (t.here ≡ (target_of act).home)
+    by_home (inl e) = inl e
+    by_home (inr k) = inr k.0
 
     each : (v : Way) → Goes t (target_of act) (move_to act) v → IsTidyIn t.here t.localities t.profile.credit_log t.births t.objects (put_as t v act)
     each Accept k = let a = k.accept refl in (
@@ -242,10 +246,10 @@ put_tidy t act fit near = each (way t act) (way_goes t act)
       (and_true (stands_here t (target_of act)) (not (leaves_here t (target_of act))) a.0).0,
     )
     each Queue k = (fit_parcel act fit, as_parcel (IsWaitingFor t.here (target_of act).number) act (k.queue refl, refl) (k.queue refl, refl))
-    each (To to) k = (sent to (parcel_for act) (fit_parcel act fit) (goes_letter t act to (k.onward to refl)) (as_parcel (IsOwn t.here t.profile.credit_log) act tt tt) (λ other. as_parcel (IsGrantFor t.here to) act tt tt)).0
+    each (To to) k = (sent to (parcel_for act) (fit_parcel act fit) (goes_letter t act to (k.onward to refl)) (as_parcel (IsOwn t.here t.profile.credit_log) act tt tt) (λ other. as_parcel (IsGrantFor t.here to) act (by_home (k.onward to refl)) tt) (as_parcel (IsNearPlace t.localities) act tt tt)).0
     each (Begin place) k =
         let b = k.begin place refl in
-        (sent place (Go act) (move_fit act b.1.0 fit b.1.1) (b.0, λ e. b.1.2.away (some_same b.1.0 place (sym b.1.1 ∙ (sym (move_to-bare act) ∙ e)))) tt (λ other. there place b.1.2.old b.1.2.at (near (target_of act) b.1.2.old b.1.2.was) other)).0
+        (sent place (Go act) (move_fit act b.1.0 fit b.1.1) (b.0, λ e. b.1.2.away (some_same b.1.0 place (sym b.1.1 ∙ (sym (move_to-bare act) ∙ e)))) tt (λ other. there place b.1.2.old b.1.2.at (near (target_of act) b.1.2.old b.1.2.was) other) tt).0
       where
         there : (p : ℕ) (x : Record) → x.place ≡ p → (x.place ≡ t.here) ⊎ (x.place < t.localities) → is_other t p ≡ false → p ≡ t.here
         there p x at (inl here) other = sym at ∙ here

@@ -157,7 +157,7 @@ module _ (r : Rules) (s : Turn) (entries : List Entry) (h : IsSound r s entries)
 
   tidy : IsTidy now
   tidy = holding (TidyAt s) (sent_if dead other after.place (Free (bare id))) s now change.1 h.tidy
-      (mail_tidy s.tables dead after.place (Free (bare id)) (λ b. (refl, managed)) (λ b. sym home) (λ b. tt) (λ b other. tt))
+      (mail_tidy s.tables dead after.place (Free (bare id)) (λ b. (refl, managed)) (λ b. sym home) (λ b. tt) (λ b other. tt) (λ b. tt))
 
   owed_both : (f : Token → ℕ) → sum_by f (parcel_tokens p) ≡ f (owed_token (bare id) log)
   owed_both f = of_both (λ q. sum_by f (parcel_tokens q) ≡ f (owed_token (bare id) log)) (owed_by f id log has) (owed_by f id log has)

@@ -1,6 +1,8 @@
 -- What a message breaks no rule says of the tables.
 use Rattle.hpx_steps.proofs.Common.{Record, ap, eqb-true, if◌then◌else◌, landed_rule, moving_here, option_map_or, record_here, sym, ◌==◌, Broken, Id, None, Option, Parcel, Some, Tables, arith, awaits, breaks, brings_right, broken, broken_near, count_here, credit, false, free_rule, give_rule, go_rule, held_here, is_far, is_live, is_to, list_any, object_rule, return_rule, stands_here, stays_here, true, waits_here, ℕ, ◌≡◌, ◌≤◌, Accept, Act, Apply, IsForHere, List, [], act_rule, are_far, away_here, bare, eq-eqb, id_at, inl, inr, is_away, is_lost, is_some, leaves_here, move_to, nat_le, nat_lt, nat_tests, not, refl, rests_at, subst, target_of, way, way_of, way_to, ◌&&◌, ◌<◌, ◌||◌, ◌∙◌, ◌∷◌, ◌≢◌}
 use Rattle.hpx_tables.specs.Strange.{breaks_at}
+use Rattle.hpx_journal.specs.Data.{Cached}
+use Rattle.hpx_steps.specs.Frames.{IsNearPlace}
 use Rattle.hpx_steps.proofs.Tools.{if_so, none_of}
 
 not_broken : {X : Type 0} (x : X) → Some x ≡ None → ⊥
@@ -26,6 +28,12 @@ object_right t p o h = if_so (stands_here t o) (λ b. absurd (not_broken _ (rw b
 -- all that it names is near
 pub near_right : (t : Tables) (p : Parcel) → broken t p ≡ None → (is_far t.localities p ≡ false) × (broken_near t p ≡ None)
 near_right t p h = if_so (is_far t.localities p) (λ b. absurd (let e : breaks 9 p t.localities ≡ None = rw b at h in not_broken _ e)) (λ b. (b, rw b at h))
+
+-- and so is the place that it says
+pub near_place : (t : Tables) (p : Parcel) → broken t p ≡ None → IsNearPlace t.localities p
+near_place t (Cached o place) h =
+    let far = (none_of (nat_le t.localities o.home) (nat_le t.localities place) (near_right t (Cached o place) h).0).1 in search (arith, nat_tests, far)
+near_place t _ h = tt
 
 -- an object has come to where its record says that it moves
 pub landed_right : (t : Tables) (o id : Id) (place : ℕ) → landed_rule t o id (Some place) ≡ None → (is_live t id ≡ true) × (credit id ≤ count_here t id) × (moving_here t id ≡ Some place)
@@ -76,7 +84,7 @@ module _ (t : Tables) (act : Act) (code : act.code ≢ 1) (far : is_far t.locali
       near = target_near t.localities act.ids (none_of (nat_le t.localities act.origin) (are_far t.localities act.ids) far).1 large
 
       home : o.home ≡ t.here
-      home = elim for.may [
+      home = elim for.granted [
         | inl to ↦ let k : for.to < t.localities = omega (arith, to, near) in sym to ∙ for.here k
         | inr here ↦ sym here
       ]

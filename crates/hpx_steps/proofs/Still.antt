@@ -1,7 +1,7 @@
 -- What is done without an entry.
 use Rattle.hpx_steps.proofs.Common.{IsRowAt, AllByRecursion, AreFired, AreNumbered, AreNumbers, AreRules, Entry, Event, HasCommits, HasPlaces, Id, IsOrderly, IsPaid, IsSound, IsTidy, Leads, List, None, Row, Rules, SendsOwn, StandsFor, Tables, Turn, [], ap, append-nil, arith, asked_by, commits, freeing, given_to, grow, hopping, joined, map, part, refl, subst, sym, unpaid, view, waits_for, weaker_leads, weigh, ℕ, ◌+◌, ◌∙◌, ◌∷◌, ◌≡◌, ◌≢◌, HasBegun, IsPlaced, IsFlowing, Arrival, brought, moved_by, Option, AreMoved, Local, at_boot, length, ◌≤◌}
 use Rattle.hpx_journal.specs.Local.{after}
-use Rattle.hpx_steps.specs.Homes.{HasHomes}
+use Rattle.hpx_steps.specs.Homes.{HasHeard, HasHomes}
 use Rattle.hpx_steps.proofs.Calm.{SameNumbers}
 use Rattle.hpx_steps.proofs.Then.{Tracks, begun_then, shown_then, Says, placed_then, Flows, flowing_then}
 
@@ -35,8 +35,8 @@ fired_more n m (e ∷ es) less h = (omega (arith, h.0, less), fired_more n m es 
 -- so all holds still, where what waits has a home
 pub still_sound : (r : Rules) (s s' : Turn) (entries : List Entry) → IsSound r s entries → Stills r s s'
     → (AreRules r s'.tables → StandsFor r (view s') entries → IsFlowing r s' (part s'.tables.here entries) → IsPaid r s' (part s'.tables.here entries)
-    → HasHomes r s' (part s'.tables.here entries)) → IsSound r s' entries
-still_sound r s s' entries h k homes =
+    → HasHomes r s' (part s'.tables.here entries)) → HasHeard r s' (part s'.tables.here entries) → IsSound r s' entries
+still_sound r s s' entries h k homes heard =
     let here : s'.tables.here ≡ s.tables.here = ap (λ (t : Tables). t.here) k.same in
     let es = part s.tables.here entries in
     let there : part s'.tables.here entries ≡ part s.tables.here entries = ap (λ j. part j entries) here in
@@ -65,6 +65,7 @@ still_sound r s s' entries h k homes =
       placed = subst (IsPlaced r s') (sym there) (placed_then r s s' (λ o j. 0) (λ o. 0) es es here (λ o j. omega arith) (λ o. omega arith) h.placed k.says);
       flowing = flowing;
       homes = homes rules keeps flowing paid;
+      heard = heard;
       arrived = k.arrived;
       numbers = let n = subst (λ (t : Tables). AreNumbers r (record s { tables = t }) entries) (sym k.same)
           (record {
@@ -122,6 +123,7 @@ rest_sound r s entries h = record {
     going = h.homes.going;
     gone = h.homes.gone;
   };
+  heard = record { cache = h.heard.cache; hand = h.heard.hand };
   arrived = h.arrived;
   numbers = grind arith;
 }
@@ -142,6 +144,7 @@ landed_sound r s landed entries h homes = record {
   placed = record { placed = h.placed.placed; told = h.placed.told; own = h.placed.own };
   flowing = record { flows = h.flowing.flows; ends = h.flowing.ends; near = h.flowing.near };
   homes = homes;
+  heard = record { cache = h.heard.cache; hand = h.heard.hand };
   arrived = h.arrived;
   numbers = grind arith;
 }

@@ -105,7 +105,7 @@ way_strands t act near root to e off = each (move_to act) refl e
 
 -- ---- and it was so at that length of the part
 
-among_split : {X : Type 0} (x : X) (xs : List X) → Among x xs → (l : List X) × (m : List X) × (xs ≡ l ++ x ∷ m)
+pub among_split : {X : Type 0} (x : X) (xs : List X) → Among x xs → (l : List X) × (m : List X) × (xs ≡ l ++ x ∷ m)
 among_split x [] h = absurd h
 among_split x (y ∷ ys) (inl e) = ([], ys, ap (λ z. z ∷ ys) e)
 among_split x (y ∷ ys) (inr h) = let k = among_split x ys h in (y ∷ k.0, k.1, ap (λ zs. y ∷ zs) k.2)

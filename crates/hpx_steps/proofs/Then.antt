@@ -1,6 +1,6 @@
 -- One more entry: what has to be shown of it once, for all that holds of a locality and its part.
 use Rattle.hpx_steps.proofs.Common.{Act, Agree, AllByRecursion, Among, Apply, AreFired, AreMoved, AreNumbered, AreNumbers, AreRules, Arrival, Bool, EndsAt, Entry, Event, Flow, HasBegun, HasCommits, HasPlaces, Id, IsFlowing, IsOrderly, IsPaid, IsPlaced, IsRowAt, IsSound, IsTidy, Leads, List, Local, None, Option, Parcel, Record, Row, Rules, SendsOwn, Shipped, Shows, Some, StandsFor, State, Turn, Waiting, [], act_in, all_append, all_count, ap, arith, arrives_at, asked_by, asks_for, asks_under, at_all, at_boot, away_here, bare_act, brought, causes, clean_front, come, commits, cond, count_by, dies, done_after, entry_at, false, find_record, fired_of, fires_one, flow, flow_comes, flow_goes, flow_of, freeing, given_to, gives_for, goes, gone, gone_to, grants_left, grants_here, grants_made, grow, hopping, inl, inr, ins, is_act, is_answer, is_free_of, is_freed, is_landed_of, is_move, is_to, joined, joins, lands_one, leads_away, leads_on, length, length-append, map, map-append, move_to, moved_by, moves_done, one_if, outs, outs_by, part, part_append, part_at, record_here, record_moves, record_rests, refl, run_local, run_local_append, spends, starts, subst, sum_by-append, sum_by-cons, sym, takes_such, target_of, tells_at, tells_come, tells_own, true, unpaid, view, waits_for, weigh, ℕ, ◌++◌, ◌+◌, ◌<◌, ◌==◌, ◌∙◌, ◌∷◌, ◌≡◌, ◌≢◌, ◌≤◌, ◌⊎◌}
-use Rattle.hpx_steps.specs.Homes.{HasHomes}
+use Rattle.hpx_steps.specs.Homes.{HasHeard, HasHomes}
 use Rattle.hpx_journal.specs.Foreign.{IsUndrawn, kept}
 use Rattle.hpx_journal.specs.Local.{after}
 use Rattle.hpx_journal.specs.Whole.{IsClean}
@@ -407,8 +407,8 @@ module _ (r : Rules) (s s' : Turn) (e : Event) (entries : List Entry) (h : IsSou
 
   -- so all holds still, where what waits has a home
   pub sound_then : (AreRules r s'.tables → StandsFor r (view s') (entries ++ one) → IsFlowing r s' (part s'.tables.here (entries ++ one)) → IsPaid r s' (part s'.tables.here (entries ++ one))
-      → HasHomes r s' (part s'.tables.here (entries ++ one))) → IsSound r s' (entries ++ one)
-  sound_then homes = record {
+      → HasHomes r s' (part s'.tables.here (entries ++ one))) → HasHeard r s' (part s'.tables.here (entries ++ one)) → IsSound r s' (entries ++ one)
+  sound_then homes heard = record {
     rules = rules_then;
     keeps = keeps_then;
     tidy = k.tidy;
@@ -421,6 +421,7 @@ module _ (r : Rules) (s s' : Turn) (e : Event) (entries : List Entry) (h : IsSou
     placed = subst (IsPlaced r s') (sym grown) (placed_then r s s' (λ o j. come r (tells_at o j) e) (λ o. one_if (is_landed_of o e)) old (old ++ one) k.counts.here (λ o j. more (come r (tells_at o j))) (λ o. more (λ x. one_if (is_landed_of o x))) h.placed k.says);
     flowing = flows_then;
     homes = homes rules_then keeps_then flows_then all_paid;
+    heard = heard;
     arrived = k.arrived;
     numbers = numbers_then;
   }

@@ -6,9 +6,11 @@ use Rattle.hpx_steps.specs.Steps.{Settle}
 use Rattle.hpx_steps.specs.Turn.{in_release}
 use Rattle.std.specs.List.Sorted.{IsPermutation}
 use Rattle.hpx_steps.proofs.Tools.{found_among, if_so, none_of, rest_sound, root_stays}
-use Rattle.hpx_steps.proofs.Handled.{Leads, act_leads, arrived_leads, asked_leads, freed_leads, go_leads, object_leads, own_leads, returned_leads}
+use Rattle.hpx_steps.proofs.Handled.{Leads, act_leads, arrived_leads, asked_leads, freed_leads, go_leads, learned_leads, object_leads, own_leads, returned_leads}
+use Rattle.hpx_steps.specs.Frames.{IsNearPlace}
 use Rattle.hpx_steps.proofs.Right.{go_right, landed_right, near_right, object_right, return_right, parked_away}
 use Rattle.hpx_steps.proofs.Step.{steps_sound}
+use Rattle.hpx_steps.proofs.Taken.{taken_leads}
 
 -- where one step after another leads there
 pub turn_stands_but : (act_of : ℕ → ℕ → ℕ → State → Act → Outcome) (landed landed' : Option Id) (t t' : Tables) (entries : List Entry) (labels : List Label) (l : Option Event)
@@ -59,7 +61,7 @@ module _ (r : Rules) (t t' : Tables) (desk : List Parcel) (taken : ℕ) (came ma
   message_leads (Give id entry) hand told fit far right held other usual deals leaves = absurd (other id entry refl)
   message_leads (Free o) hand told fit far right held other usual deals leaves = freed_leads r with_message t' o (record { due = refl; fresh = refl }) refl refl told
       (ap (λ n. if stands_here t o && (not (waits_here t o) && (n == 0)) then None else breaks 7 (Free o) (min (2 ^ 128 - 1) n)) (held o refl) ∙ right) deals leaves
-  message_leads (Cached id place) hand told fit far right held other usual deals leaves = absurd (let e : breaks 8 (Cached id place) (length t.records) ≡ None = right in cc)
+  message_leads (Cached id place) hand told fit far right held other usual deals leaves = learned_leads r with_message (record { due = refl; fresh = refl }) t' id place hand deals
   message_leads (Go act) hand told fit far right held other usual deals leaves =
       let k = go_right t (bare (target_of act)) (target_of act) (move_to act) right in go_leads r with_message (record { due = refl; fresh = refl }) t' act hand k.0 k.1 deals
   message_leads (Shipped act state) hand told fit far right held other usual deals leaves =
@@ -84,13 +86,13 @@ module _ (act_of : ℕ → ℕ → ℕ → State → Act → Outcome) (t t' : Ta
   came p bytes = record (at_rest (record t { taken = t.taken + 1 })) { came = p ∷ []; last = Some (In bytes) }
 
   -- what is dealt with leads back to rest
-  pub frame_stands : (p : Parcel) (bytes : List ℕ) (events : List Event) → parcel_of bytes ≡ Some p → IsParcel p
+  pub frame_stands : (p : Parcel) (bytes : List ℕ) (events : List Event) → parcel_of bytes ≡ Some p → IsParcel p → IsNearPlace t.localities p
       → Leads r (came p bytes) (lands p) t' events → StandsBut (lands p) act_of t' (entries ++ at_all t.here (In bytes ∷ events))
-  frame_stands p bytes events spelled fit leads =
+  frame_stands p bytes events spelled fit near leads =
       subst (λ es. StandsBut (lands p) act_of t' (entries ++ at_all t.here (In bytes ∷ es))) leads.writes
       (turn_stands_but act_of None (lands p) t t' entries (Writes (In bytes) ∷ leads.labels) leads.last h (
         came p bytes,
-        record { calm = record { due = refl; fresh = refl }; free = record { came = refl; mailed = refl }; parcel = p; spelled = spelled; fit = fit; now = refl },
+        record { calm = record { due = refl; fresh = refl }; free = record { came = refl; mailed = refl }; parcel = p; spelled = spelled; fit = fit; near = near; now = refl },
         leads.steps,
       ))
 
@@ -105,7 +107,7 @@ module _ (act_of : ℕ → ℕ → ℕ → State → Act → Outcome) (t t' : Ta
       → ((id : Id) (entry : ℕ) → p ≡ Give id entry → ⊥) → DealsWith p (record t { taken = t.taken + 1 }) t' → Leaves p t t'
       → Leads r (came p bytes) (lands p) t' (effects t p)
   frame_leads (Apply act) bytes spelled fit right other deals leaves =
-      act_leads r (came (Apply act) bytes) (record { due = refl; fresh = refl }) t' act (Apply act) (inl refl) (inl (refl, refl)) refl deals
+      taken_leads r (came (Apply act) bytes) act (Apply act) (inl refl) (inl (refl, refl)) refl t' deals
   frame_leads (Move act) bytes spelled fit right other deals leaves =
       act_leads r (came (Move act) bytes) (record { due = refl; fresh = refl }) t' act (Move act) (inr refl) (inl (refl, refl)) refl deals
   frame_leads (Return id) bytes spelled fit right other deals leaves = usual_leads (Return id) bytes spelled fit right other tt deals leaves

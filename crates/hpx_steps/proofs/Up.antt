@@ -1,6 +1,6 @@
 -- An id is given up, or tells its home where its object is.
 use Rattle.hpx_steps.proofs.Common.{inr, Arrived, IsOwn, IsParcel, MayGoTo, Parcel, Tells, Untold, append-nil, asks_as, asks_for, count_by, follows, gives_for, parcel_acts, parcel_asks, parcel_frees, parcel_tokens, parcel_travels, same_object, ◌⊎◌, Entry, Event, GivesUp, Going, HasCredit, Id, IsSound, IsTidy, Item, List, Loose, MatchOption, OnDesk, Return, Row, Rules, Some, TidyAt, Token, Turn, Up, View, [], ap, arith, asked_by, asks_under, bare, bare_due, causes, counts_of, counts_true, follows_up, freeing, given_to, going, held_token, hopping, inl, is_other, joined, mails, map, owed_token, refl, same_token, subst, sum_by, sum_by-cons, sym, token_own, tokens, true, unpaid, view, waits_for, weigh, weight, worth, wrote, ℕ, ◌+◌, ◌<◌, ◌==◌, ◌∷◌, ◌≡◌, ◌≤◌, grants_here, grants_of, leads_away, leads_on, tells_come, flow, flow_at, flow_in, flow_go, flow_of, Flow, one_if, not, nat_lt, and_true, false, false_from, same_object-true, eq-eqb, ◌&&◌, ◌∙◌, Bool, tells_own, brought, moved_by}
-use Rattle.hpx_steps.specs.Frames.{IsGrantFor}
+use Rattle.hpx_steps.specs.Frames.{IsGrantFor, IsNearPlace}
 use Rattle.hpx_steps.proofs.Tools.{Trade, none_trade, untold_change, Changes, Keeps, Sees, asks_of, bound_none, by_rows, counts_near, fewer, first_goes, frees_of, held_by, holding, loose_change, mail_change, mail_tidy, owed_by, same_asks, same_dead, sees_by, sees_covers, sees_leads, sent_if, sent_total, then, told_as, total, view_covered, view_worth, same_travels, ships_of, same_waits, acting, same_tracks, same_says, same_flows, flowless, by_flows, eq_turned}
 
 none_owned : (q : Id) (other : Bool) (to : ℕ) (id : Id) → total (tells_own q) (sent_if true other to (Return id)) ≤ 0
@@ -85,7 +85,7 @@ module _ (r : Rules) (s : Turn) (entries : List Entry) (h : IsSound r s entries)
 
   tidy : IsTidy now
   tidy = holding (TidyAt s) sent s now change.1 h.tidy (mail_tidy s.tables true id.home p (λ b. of_both IsParcel credit credit) (λ b. of_both (MayGoTo s.tables.here id.home) refl (refl, refl))
-      (λ b. of_both (IsOwn s.tables.here s.tables.profile.credit_log) tt tt) (λ b other. of_both (IsGrantFor s.tables.here id.home) tt tt))
+      (λ b. of_both (IsOwn s.tables.here s.tables.profile.credit_log) tt tt) (λ b other. of_both (IsGrantFor s.tables.here id.home) tt tt) (λ b. of_both (IsNearPlace s.tables.localities) tt tt))
 
   owed_both : (f : Token → ℕ) → sum_by f (parcel_tokens p) ≡ f (owed_token (bare id) log)
   owed_both f = of_both (λ q. sum_by f (parcel_tokens q) ≡ f (owed_token (bare id) log)) (owed_by f id log has) (owed_by f id log has)

@@ -6,7 +6,7 @@ use Rattle.std.specs.Option.{option_and_then, option_map, option_map_or}
 use Rattle.hpx_value.specs.Ids.{bare, credit, same_object}
 use Rattle.hpx_value.specs.Values.{named}
 use Rattle.hpx_journal.specs.Bags.{without}
-use Rattle.hpx_journal.specs.Data.{Id, Act, State, Due, MessageDue, PrintDue, Parcel, Apply, Return, Ask, Give, Move, Go, Shipped, Arrived, Free}
+use Rattle.hpx_journal.specs.Data.{Id, Act, State, Due, MessageDue, PrintDue, Parcel, Apply, Return, Ask, Give, Cached, Move, Go, Shipped, Arrived, Free}
 use Rattle.hpx_journal.specs.Entries.{name_of, target_of, move_to}
 use Rattle.hpx_journal.specs.Rows.{is_to}
 use Rattle.hpx_journal.specs.Local.{is_standing}
@@ -20,6 +20,7 @@ use Rattle.hpx_tables.specs.Kept.{record_here, count_here, moving_here}
 use Rattle.hpx_tables.specs.Merged.{may_merge, merged_in}
 use Rattle.hpx_tables.specs.Pending.{Waits, Refills, awaits}
 use Rattle.hpx_tables.specs.Tables.{Tables}
+use Rattle.hpx_steps.specs.Cache.{learned_at, with_taken}
 use Rattle.hpx_steps.specs.Mail.{with_mail, with_mail_if, with_return}
 use Rattle.hpx_steps.specs.Ways.{Way, Accept, accepts, way, with_act}
 
@@ -153,9 +154,9 @@ with_object act state t = record t {
 -- what waits then, or is on its way: an action that it brought; the answer to an ask; that a dead object is to be freed; ids
 -- that a freed object gives up. Credit that was asked for is in the hand of the commit that waits for it. Nothing else changes
 -- but records at an ask or a return, and objects at a Free. An object is put where it may stand, with its MOVE;
--- and that one has landed is a return
+-- and that one has landed is a return. Where an object is said to be, the cache learns that; and behind an action it forgets, or its origin is told
 abbrev pub DealsWith : Parcel → Tables → Tables → Type 0
-DealsWith (Apply act) t t' = t' ≡ with_act act t
+DealsWith (Apply act) t t' = t' ≡ with_taken act t
 DealsWith (Move act) t t' = t' ≡ with_act act t
 DealsWith (Return id) t t' = t' ≡ record (with_free id t) { records = t'.records }
 DealsWith (Ask id asker entry) t t' = t' ≡ record (with_mail asker (Give (given_here t id) entry) t) { records = t'.records }
@@ -164,7 +165,7 @@ DealsWith (Free o) t t' = t' ≡ record (with_returns (ids_in (find (is_standing
 DealsWith (Go act) t t' = t' ≡ record t { leaving = t.leaving ++ Go act ∷ [] }
 DealsWith (Shipped act state) t t' = t' ≡ with_object act state t
 DealsWith (Arrived id place) t t' = t' ≡ record (with_free_at place id t) { records = t'.records }
-DealsWith _ t t' = t' ≡ t
+DealsWith (Cached id place) t t' = t' ≡ learned_at id place t
 
 -- what stays for good of a message on the own desk with an action that would go this way
 abbrev pub parked : Way → Parcel → List Parcel

@@ -3,7 +3,7 @@ use Rattle.std.specs.Prelude.{ℕ, true, List, [], ◌++◌, ◌≡◌, ◌≤�
 use Rattle.std.specs.List.{sum_by, count_by}
 use Rattle.hpx_value.specs.Ids.{bare}
 use Rattle.hpx_value.specs.Values.{bare_act}
-use Rattle.hpx_journal.specs.Data.{Id, Act, Parcel, Apply, Move}
+use Rattle.hpx_journal.specs.Data.{Id, Act, Parcel, Apply, Cached, Move}
 use Rattle.hpx_journal.specs.Entries.{Rules, target_of}
 use Rattle.hpx_journal.specs.Local.{is_standing, recorded}
 use Rattle.hpx_journal.specs.Whole.{run_local, IsClean}
@@ -16,7 +16,7 @@ use Rattle.hpx_tables.specs.declared.kept.Outgoing.{Outgoing}
 use Rattle.hpx_steps.specs.Calls.{act_in}
 use Rattle.hpx_steps.specs.Flows.{PlacedAt, dies, flow_comes, flow_goes}
 use Rattle.hpx_steps.specs.Items.{Among}
-use Rattle.hpx_steps.specs.Onward.{Carries, HadToGo, HaveGone}
+use Rattle.hpx_steps.specs.Onward.{Carries, HadToGo, HaveGone, WasSaid}
 use Rattle.hpx_steps.specs.Turn.{Turn}
 
 -- an action waits for an object that was born, and whose record, as long as there is one, says that it moves; or that has landed just now
@@ -54,3 +54,8 @@ pub record HasHomes (r : Rules) (s : Turn) (entries : List Entry) : Type 0 where
   pub own : (p : Parcel) (act : Act) → (p ≡ Apply act) ⊎ (p ≡ Move act) → IsOwnMail s p → WasStranded r s.tables.here entries act
   pub going : (x : Outgoing) (act : Act) → Among x s.tables.outgoing → Carries act x.parcel → HadToGo r s.tables.here x.to entries act
   pub gone : HaveGone r s.tables.here entries
+
+-- each place that the cache has, or that the message in hand says, is one that there is, and a frame that came said so
+pub record HasHeard (r : Rules) (s : Turn) (entries : List Entry) : Type 0 where
+  pub cache : (x : Id × ℕ) → Among x s.tables.cache → (x.1 < s.tables.localities) × WasSaid r entries x.0 x.1
+  pub hand : (o : Id) (place : ℕ) → Among (Cached o place) s.came → (place < s.tables.localities) × WasSaid r entries o place

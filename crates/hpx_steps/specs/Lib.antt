@@ -12,6 +12,7 @@ pub mod Numbered
 pub mod Limits
 pub mod Left
 pub mod Ways
+pub mod Cache
 pub mod Flows
 pub mod Onward
 pub mod Homes

@@ -36,7 +36,7 @@ use Rattle.hpx_steps.specs.Turn.{at_rest, in_release, bare_due, bare_standing, c
 use Rattle.hpx_steps.specs.Calls.{act_in}
 use Rattle.hpx_steps.specs.Items.{Among, weigh}
 use Rattle.hpx_steps.specs.Flows.{IsFlowing}
-use Rattle.hpx_steps.specs.Homes.{HasHomes}
+use Rattle.hpx_steps.specs.Homes.{HasHeard, HasHomes}
 use Rattle.hpx_journal.specs.Moving.{is_landed_of}
 
 -- ---- what is seen
@@ -267,7 +267,7 @@ rules_of act_of n profile = record {
 }
 
 -- the same in one: nothing is due, each id is named, own messages are in order, each move was granted, each object is where
--- it was told to be, what waits for an object waits while it moves, the MOVE with which an object came is here and not done, and what waits lacks something
+-- it was told to be, the cache has what was said, what waits for an object waits while it moves, the MOVE with which an object came is here and not done, and what waits lacks something
 pub record StandsAtRest (r : Rules) (t : Tables) (entries : List Entry) : Type 0 where
   pub stands : StandsWith r t [] [] entries
   pub orderly : IsOrderly r t (part t.here entries)
@@ -275,6 +275,7 @@ pub record StandsAtRest (r : Rules) (t : Tables) (entries : List Entry) : Type 0
   pub placed : ArePlaced r t (part t.here entries)
   pub flowing : IsFlowing r (at_rest t) (part t.here entries)
   pub homes : HasHomes r (at_rest t) (part t.here entries)
+  pub heard : HasHeard r (at_rest t) (part t.here entries)
   pub bare : AllByRecursion (λ (a : Arrival). a.object.log ≡ None) t.came
   pub arrived : (a : Arrival) → weigh (brought a) (at_rest t) ≤ weigh (moved_by a) (at_rest t)
   pub lacks : Lacks t

@@ -33,7 +33,7 @@ use Rattle.hpx_agas.specs.declared.record.Waiting.{Waiting}
 use Rattle.hpx_steps.specs.Calls.{act_in}
 use Rattle.std.specs.Option.{option_map_or}
 use Rattle.hpx_steps.specs.Flows.{IsFlowing}
-use Rattle.hpx_steps.specs.Homes.{HasHomes}
+use Rattle.hpx_steps.specs.Homes.{HasHeard, HasHomes}
 use Rattle.hpx_journal.specs.Moving.{is_landed_of}
 
 -- the rules are those of these tables
@@ -352,6 +352,7 @@ pub record IsSound (r : Rules) (s : Turn) (entries : List Entry) : Type 0 where
   pub placed : IsPlaced r s (part s.tables.here entries)
   pub flowing : IsFlowing r s (part s.tables.here entries)
   pub homes : HasHomes r s (part s.tables.here entries)
+  pub heard : HasHeard r s (part s.tables.here entries)
   -- the MOVE with which an object came is here, and not done
   pub arrived : (a : Arrival) → weigh (brought a) s ≤ weigh (moved_by a) s
   pub numbers : AreNumbers r s entries

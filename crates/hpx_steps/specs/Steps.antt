@@ -1,5 +1,5 @@
 -- What one entry changes, and what a turn does between entries.
-use Rattle.std.specs.Prelude.{ℕ, true, false, cond, List, [], ◌∷◌, ◌++◌, ◌≡◌, ◌≢◌, ◌+◌, ◌^◌, ◌==◌, ◌≤◌, ◌<◌, ◌⊎◌, map, flat_map, is_some, length, set, take, slice_get, Option, Some, None}
+use Rattle.std.specs.Prelude.{ℕ, Bool, true, false, cond, List, [], ◌∷◌, ◌++◌, ◌≡◌, ◌≢◌, ◌+◌, ◌^◌, ◌==◌, ◌≤◌, ◌<◌, ◌⊎◌, map, flat_map, is_some, length, set, take, slice_get, Option, Some, None}
 use Rattle.std.specs.List.{filter, find, list_any, remove, sum_by, AllByRecursion}
 use Rattle.std.specs.List.Sorted.{IsPermutation}
 use Rattle.hpx_value.specs.Ids.{bare, bare_id, same_object}
@@ -11,13 +11,13 @@ use Rattle.hpx_value.specs.Riders.{due_with, plain, rider_of}
 use Rattle.hpx_value.specs.Laws.{birth_state}
 use Rattle.hpx_value.specs.declared.acts.Job.{Job}
 use Rattle.hpx_parcel.specs.Parcels.{IsParcel, HasRightCredit, HasLeastCredit}
-use Rattle.hpx_journal.specs.Data.{Id, Act, State, Message, Due, MessageDue, PrintDue, Parcel, Apply, Return, Ask, Give, Move, Go, Shipped, Arrived, Free}
+use Rattle.hpx_journal.specs.Data.{Id, Act, State, Message, Due, MessageDue, PrintDue, Parcel, Apply, Return, Ask, Give, Cached, Move, Go, Shipped, Arrived, Free}
 use Rattle.hpx_journal.specs.Entries.{Rules, name_of, target_of, move_to, line_act}
 use Rattle.hpx_journal.specs.Local.{is_standing, acts_on, is_busy, failure}
 use Rattle.hpx_journal.specs.Names.{due_ids}
 use Rattle.hpx_journal.specs.Rows.{AreMade, is_to}
 use Rattle.hpx_journal.specs.Tokens.{held_token}
-use Rattle.hpx_part.specs.Data.{Name, Returned, Granted, Refused, Event, Line, Fire, Split, Born, Done, Sent, Print, Merge, Up, Asked, Given, Count, Freed, Left, Landed, Mail, Out, In, Standing, Token}
+use Rattle.hpx_part.specs.Data.{Name, Returned, Granted, Refused, Event, Line, Fire, Split, Born, Done, Sent, Print, Merge, Up, Asked, Given, Count, Freed, Left, Landed, Looked, Mail, Out, In, Standing, Token}
 use Rattle.hpx_agas.specs.Records.{find_record}
 use Rattle.hpx_agas.specs.Registries.{lowered, asked}
 use Rattle.hpx_agas.specs.Queues.{is_for, without_first}
@@ -33,13 +33,15 @@ use Rattle.hpx_tables.specs.Pending.{Waits, Refills, awaits, waits_with, ids_nam
 use Rattle.hpx_tables.specs.declared.kept.Arrival.{Arrival}
 use Rattle.hpx_tables.specs.declared.kept.Outgoing.{Outgoing}
 use Rattle.hpx_steps.specs.Calls.{act_in}
+use Rattle.hpx_steps.specs.Frames.{IsNearPlace}
 use Rattle.hpx_steps.specs.Items.{Among}
 use Rattle.hpx_steps.specs.Paused.{HasSplit}
-use Rattle.hpx_steps.specs.Turn.{Turn, commits, tokens_of, bare_due, bare_standing}
+use Rattle.hpx_steps.specs.Turn.{Turn, commits, tokens_of, bare_due, bare_standing, waiting}
 use Rattle.hpx_steps.specs.Rows.{kind_of}
-use Rattle.hpx_steps.specs.Mail.{mails, mails_if, draws, wrote}
+use Rattle.hpx_steps.specs.Mail.{going, is_other, mails, mails_if, draws, wrote}
 use Rattle.hpx_steps.specs.Sound.{IsStray, arrival_of, away_here}
 use Rattle.hpx_steps.specs.Ways.{Accept, way, posts}
+use Rattle.hpx_steps.specs.Cache.{asked_for, forgot, hit_at, is_asked_on, learned_at}
 
 -- ---- when
 
@@ -273,6 +275,35 @@ pub record Sends (s : Turn) (a : Name) (s' : Turn) : Type 0 where
   pub due : s.due ≡ MessageDue message ∷ rest
   pub name : a ≡ record { origin = s.tables.here; serial = s.tables.serial + 1 }
   pub now : s' ≡ wrote (Sent a) (posts (named s.tables.here (s.tables.serial + 1) message) (draws (record s { due = rest })))
+
+-- one more message goes to another locality
+abbrev pub goes_to : ℕ → Parcel → Turn → Turn
+goes_to to p s = record s { tables = record s.tables { outgoing = s.tables.outgoing ++ going to p ∷ [] } }
+
+-- the first of what is due is sent to where the cache says that its object is
+pub record SendsOn (s : Turn) (a : Name) (s' : Turn) : Type 0 where
+  pub fresh : s.fresh ≡ []
+  pub message : Message
+  pub rest : List Due
+  pub due : s.due ≡ MessageDue message ∷ rest
+  pub name : a ≡ record { origin = s.tables.here; serial = s.tables.serial + 1 }
+  pub asks : is_asked_on s.tables (named s.tables.here (s.tables.serial + 1) message) ≡ true
+  pub place : ℕ
+  pub hit : hit_at s.tables (target_of (named s.tables.here (s.tables.serial + 1) message)) ≡ Some place
+  pub near : place < s.tables.localities
+  pub now : s' ≡ wrote (Sent a) (goes_to place (Apply (named s.tables.here (s.tables.serial + 1) message)) (draws (record s { due = rest })))
+
+-- the cache is asked where the object is of the action that was sent last, whose home is elsewhere: it hits where it says of a place
+-- other than here
+pub record Looks (s : Turn) (o : Id) (hit : Bool) (s' : Turn) : Type 0 where
+  pub fresh : s.fresh ≡ []
+  pub act : Act
+  pub sent : s.last ≡ Some (Sent (name_of act))
+  pub waits : Among (bare_act act) (waiting s)
+  pub object : o ≡ bare (target_of act)
+  pub away : (target_of act).home ≢ s.tables.here
+  pub found : hit ≡ is_some (hit_at s.tables o)
+  pub now : s' ≡ wrote (Looked o hit) (record s { tables = asked_for o s.tables })
 
 -- the first of what is due is printed
 pub record Prints (s : Turn) (bytes : List ℕ) (s' : Turn) : Type 0 where
@@ -527,6 +558,7 @@ pub record ComesIn (r : Rules) (s : Turn) (bytes : List ℕ) (s' : Turn) : Type 
   pub parcel : Parcel
   pub spelled : r.parcel_of bytes ≡ Some parcel
   pub fit : IsParcel parcel
+  pub near : IsNearPlace s.tables.localities parcel
   pub now : s' ≡ wrote (In bytes) (record s { came = parcel ∷ []; tables = record s.tables { taken = s.tables.taken + 1 } })
 
 -- an action that is in hand goes its way, without an entry; one from the desk is accepted
@@ -557,6 +589,30 @@ pub record Parks (s s' : Turn) : Type 0 where
       → (is_to s.tables.here (move_to act) ≡ false) ⊎ (((target_of act).home ≡ s.tables.here) × (s.tables.births < (target_of act).number))
   pub hand : HasInHand parcel s
   pub now : s' ≡ record (drops s) { tables = record s.tables { stray = s.tables.stray ++ parcel ∷ [] } }
+
+-- what says where an object is is in hand: the cache has it
+pub record Learns (s s' : Turn) : Type 0 where
+  pub id : Id
+  pub place : ℕ
+  pub hand : HasInHand (Cached id place) s
+  pub now : s' ≡ drops (record s { tables = learned_at id place s.tables })
+
+-- what was said of an object is forgotten
+pub record Forgets (s s' : Turn) : Type 0 where
+  pub o : Id
+  pub now : s' ≡ record s { tables = forgot o s.tables }
+
+-- the home of an object tells another locality where that is
+pub record Hints (s s' : Turn) : Type 0 where
+  pub o : Id
+  pub place : ℕ
+  pub to : ℕ
+  pub bare : IsParcel (Cached o place)
+  pub home : s.tables.here ≡ o.home
+  pub other : is_other s.tables to ≡ true
+  pub away : place ≢ to
+  pub near : place < s.tables.localities
+  pub now : s' ≡ goes_to to (Cached o place) s
 
 -- the first action that waits for an object of a number goes its way
 pub record Releases (s s' : Turn) : Type 0 where
@@ -593,6 +649,9 @@ pub data Label : Type 0 where
   Park : Label
   Release : Label
   Settle : Label
+  Learn : Label
+  Forget : Label
+  Hint : Label
   Reorder : Label
 
 -- one step
@@ -603,7 +662,7 @@ Step r s (Writes (Split o log)) s' = Splits s o log s'
 Step r s (Writes (Born o state)) s' = Bears s o state s'
 Step r s (Writes (Done a false)) s' = Commits r s a s'
 Step r s (Writes (Done a true)) s' = Fails s a s'
-Step r s (Writes (Sent a)) s' = Sends s a s'
+Step r s (Writes (Sent a)) s' = Sends s a s' ⊎ SendsOn s a s'
 Step r s (Writes (Print bytes)) s' = Prints s bytes s'
 Step r s (Writes (Merge o log)) s' = Merges s o log s'
 Step r s (Writes (Up o log)) s' = GivesUp s o log s' ⊎ Tells s o log s'
@@ -618,7 +677,7 @@ Step r s (Writes (Landed o)) s' = Lands s o s'
 Step r s (Writes (Mail kind)) s' = TakesUp s kind s'
 Step r s (Writes (Out to bytes)) s' = GoesOut r s to bytes s'
 Step r s (Writes (In bytes)) s' = ComesIn r s bytes s'
-Step r s (Writes _) s' = ⊥
+Step r s (Writes (Looked o hit)) s' = Looks s o hit s'
 Step r s Suspend s' = Suspends s s'
 Step r s Pause s' = Pauses s s'
 Step r s Place s' = Places s s'
@@ -626,6 +685,9 @@ Step r s Mark s' = Marks s s'
 Step r s Park s' = Parks s s'
 Step r s Release s' = Releases s s'
 Step r s Settle s' = Settles s s'
+Step r s Learn s' = Learns s s'
+Step r s Forget s' = Forgets s s'
+Step r s Hint s' = Hints s s'
 Step r s Reorder s' = Reorders s s'
 
 -- one step after another

@@ -1,7 +1,7 @@
 -- What the rules that a message may break speak of: what is far, what is live, and the rules of Give and Free.
 use Rattle.std.specs.Prelude.{ℕ, Bool, false, not, List, ◌||◌, ◌&&◌, ◌==◌, ◌-◌, ◌^◌, min, nat_le, if◌then◌else◌, is_some, Option, Some, None}
 use Rattle.std.specs.List.{list_any}
-use Rattle.hpx_value.specs.Ids.{bare, credit}
+use Rattle.hpx_value.specs.Ids.{bare}
 use Rattle.hpx_journal.specs.Data.{Id, Act, Parcel, Apply, Return, Ask, Give, Cached, Move, Go, Shipped, Arrived, Free}
 use Rattle.hpx_journal.specs.Entries.{target_of, move_to}
 use Rattle.hpx_commit.specs.Deals.{log_of}

@@ -1,7 +1,7 @@
 -- A node as clauses see it: what it keeps.
 use Rattle.std.specs.Prelude.{ℕ, List, [], ◌++◌, ◌≡◌, map}
 use Rattle.hpx_value.specs.declared.profile.Profile.{Profile}
-use Rattle.hpx_journal.specs.Data.{Act, Parcel}
+use Rattle.hpx_journal.specs.Data.{Act, Id, Parcel}
 use Rattle.hpx_part.specs.Data.{Standing}
 use Rattle.hpx_agas.specs.declared.record.Waiting.{Waiting}
 use Rattle.hpx_agas.specs.declared.record.Record.{Record}
@@ -30,6 +30,7 @@ pub record Tables : Type 0 where
   pub sent : ℕ  -- frames gone
   pub taken : ℕ  -- frames accepted
   pub answered : ℕ  -- answers that the session has had
+  pub cache : List (Id × ℕ)  -- where objects of other homes were last said to be, the latest first
 
 -- what waits for objects that move
 abbrev pub queued_parcels : List (Waiting Parcel) → List Parcel

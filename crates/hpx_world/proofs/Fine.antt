@@ -150,9 +150,10 @@ module _ (r : Rules) (log : ℕ) (nodes : List Tables) (es : List Entry) (joined
         → ((o : Id) → o.kind < 16 → leads_on right.from o p ≡ 0) → Fine p
     come (Apply act) spelled other may own roots = ((met (Apply act) spelled).0, home may)
       where
-        home : (k ≡ (target_of act).home) ⊎ (right.from ≡ (target_of act).home) → (target_of act).kind < 16 → (target_of act).home ≡ k
+        home : (k ≡ (target_of act).home) ⊎ ((right.from ≡ (target_of act).home) ⊎ (16 ≤ (target_of act).kind)) → (target_of act).kind < 16 → (target_of act).home ≡ k
         home (inl e) small = sym e
-        home (inr e) small =
+        home (inr (inr large)) small = absurd (omega (arith, large, small))
+        home (inr (inl e)) small =
             let one : leads_on right.from (target_of act) (Apply act) ≡ 1 = rw (eq-eqb (target_of act).home right.from (sym e), same_object-refl (target_of act)) refl in
             absurd (omega (arith, one, roots (target_of act) small))
     come (Return id) spelled other may own roots = (sym may, brought id (Return id) spelled (owing_worth id id.log))
@@ -239,7 +240,7 @@ module _ (r : Rules) (log : ℕ) (nodes : List Tables) (es : List Entry) (joined
         sym may ∙ here (subst (λ j. j < r.localities) (sym may) near)
 
     lies : (q : Parcel) → p ≡ q → IsParcel q → ((o : Id) → q ≡ Free o → ⊥) → IsForHere r.localities k q → IsOwn k log q → AllByRecursion (IsActMet r (replayed r es)) (acts_in (Some q)) → Fine q
-    lies (Apply act) is form other way own m = (m.0, home way.may m.0)
+    lies (Apply act) is form other way own m = (m.0, home way.granted m.0)
       where
         home : (way.to ≡ (target_of act).home) ⊎ (k ≡ (target_of act).home) → IsActMet r (replayed r es) (bare_act act) → (target_of act).kind < 16 → (target_of act).home ≡ k
         home (inl e) h small =

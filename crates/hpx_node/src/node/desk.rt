@@ -3,7 +3,7 @@ ghost use Rattle.std.specs.Prelude.{◌≡◌, ◌≤◌, ◌<◌, ◌+◌, ◌-
 ghost use Rattle.std.specs.List.{AllByRecursion, list_any};
 ghost use Rattle.hpx_value.specs.Ids.{bare, credit};
 ghost use Rattle.hpx_parcel.specs.Parcels.{IsParcel, HasRightCredit, HasCredit, HasLeastCredit, IsBare};
-ghost use Rattle.hpx_journal.specs.Data.{Return, Ask, Give, Free};
+ghost use Rattle.hpx_journal.specs.Data.{Return, Ask, Give, Cached, Free};
 ghost use Rattle.hpx_parcel.specs.Reading.{parcel_of};
 ghost use Rattle.hpx_journal.specs.Weights.{HasRoom, total_weight};
 ghost use Rattle.hpx_part.specs.Data.{In, Mail};
@@ -13,13 +13,13 @@ ghost use Rattle.hpx_steps.specs.Limits.{AddsATurn};
 ghost use Rattle.hpx_part.specs.Parts.{at_all};
 ghost use Rattle.hpx_tables.specs.Kept.{stands_here, waits_here, held_here, count_here};
 ghost use Rattle.hpx_tables.specs.Pending.{awaits};
-ghost use Rattle.hpx_tables.specs.Rules.{broken_near};
+ghost use Rattle.hpx_tables.specs.Rules.{broken, broken_near};
 ghost use Rattle.hpx_tables.specs.Strange.{is_live, brings_right};
 ghost use Rattle.hpx_steps.specs.Calls.{with_returns, ups, effects, Accepts, Gives, DealsWith, Leaves};
 ghost use Rattle.hpx_steps.specs.Mail.{with_return};
 ghost use Rattle.hpx_steps.specs.Rows.{kind_of};
 ghost use Rattle.hpx_node.specs.Behind.{landed_in};
-ghost use Rattle.hpx_node.specs.Handled.{Takes, Clears, Tends, HasNothingToTend, NotTaken, NotCleared, NotTended};
+ghost use Rattle.hpx_node.specs.Handled.{IsPlain, said_in, Takes, Clears, Tends, HasNothingToTend, NotTaken, NotCleared, NotTended};
 
 use crate::node::Node;
 use crate::node::tend::landed_in;
@@ -62,6 +62,16 @@ fn kind_of(parcel: &Parcel) -> u8
         } => 8,
         Parcel::Landed { id: _, place: _ } => 9,
         Parcel::Free(_) => 10,
+    }
+}
+
+/// Which object a message says to be where.
+fn said_in(parcel: &Parcel) -> Option<(Gid, u32)>
+    ensures { result ≡ said_in parcel.now }
+{
+    match parcel {
+        Parcel::Cached { id, place } => Some((*id, *place as u32)),
+        _ => None,
     }
 }
 
@@ -219,6 +229,7 @@ impl<A: Acts + Copy> Node<A> {
     /// Does what a message says that breaks no rule.
     fn handle(&mut self, book: &mut Journal, parcel: Parcel)
         requires fit { IsParcel parcel }
+        requires plain { IsPlain parcel }
         requires right { broken_near self.old.tables parcel ≡ None }
         requires tidy { IsTidy self.old.tables [] }
         requires spare { 128 ≤ self.old.spare }
@@ -231,7 +242,7 @@ impl<A: Acts + Copy> Node<A> {
         ensures page { (id : _) (entry : _) → parcel ≡ Give id entry → book.old.spare ≤ book.new.spare + 1 }
     {
         match parcel {
-            Parcel::Apply(act) => self.post(act),
+            Parcel::Apply(act) => self.take_up(act),
             Parcel::Move(act) => self.post(act),
             Parcel::Return(id) => self.take_back(book, id),
             Parcel::Ask { id, asker, entry } => self.answer(book, id, asker, entry),
@@ -247,6 +258,7 @@ impl<A: Acts + Copy> Node<A> {
     /// The same with a message of the own desk.
     fn handle_own(&mut self, book: &mut Journal, parcel: Parcel)
         requires fit { IsParcel parcel }
+        requires plain { IsPlain parcel }
         requires right { broken_near self.old.tables parcel ≡ None }
         requires tidy { IsTidy self.old.tables [] }
         requires spare { 128 ≤ self.old.spare }
@@ -269,6 +281,7 @@ impl<A: Acts + Copy> Node<A> {
     fn enter_frame(&mut self, book: &mut Journal, bytes: Bytes, parcel: Parcel)
         requires fit { IsParcel parcel }
         requires spelled { parcel_of bytes ≡ Some parcel }
+        requires plain { IsPlain parcel }
         requires right { broken_near self.old.tables parcel ≡ None }
         requires few { self.old.tables.taken + 1 < 2 ^ 64 }
         requires spare { 1280 ≤ self.old.spare }
@@ -299,6 +312,7 @@ impl<A: Acts + Copy> Node<A> {
     /// Writes that a message to the own locality is taken up, and does what it says.
     fn enter_mail(&mut self, book: &mut Journal, parcel: Parcel)
         requires fit { IsParcel parcel }
+        requires plain { IsPlain parcel }
         requires right { broken_near self.old.tables parcel ≡ None }
         requires spare { 1280 ≤ self.old.spare }
         requires page { 1280 ≤ book.old.spare }
@@ -373,6 +387,36 @@ impl<A: Acts + Copy> Node<A> {
         }
     }
 
+    /// Accepts a frame that says where an object is: the cache learns that.
+    fn hear(
+        &mut self,
+        book: &mut Journal,
+        bytes: Bytes,
+        id: Gid,
+        place: u32,
+    ) -> Result<(), OutOfMemory>
+        requires room { HasRoom book.old.entries }
+        requires stands { Stands A.act_of self.old.tables book.old.entries }
+        requires fit { IsParcel (Cached id place) }
+        requires spelled { parcel_of bytes ≡ Some (Cached id place) }
+        requires right { broken self.old.tables (Cached id place) ≡ None }
+        ensures stands { Stands A.act_of self.new.tables book.new.entries }
+        ensures running { self.new.tables.running ≡ self.old.tables.running }
+        ensures turn { AddsATurn book.old.entries book.new.entries }
+        ensures ok { OnOk result (Takes bytes self.old.tables self.new.tables book.old.entries book.new.entries) }
+        ensures err { OnErr result (OnlySpare self.old.tables self.new.tables book.old book.new) }
+    {
+        let at = self.here;
+        book.reserve(1)?;
+        self.cache.learn(id, place)?;
+        self.taken += 1;
+        book.push(Entry {
+            at,
+            event: Event::In { bytes },
+        });
+        Ok(())
+    }
+
     /// Accepts a frame, or refuses it; nothing changes at a refusal. Want of memory is answered only where the frame spells a
     /// parcel that breaks no rule.
     pub fn take(
@@ -406,6 +450,11 @@ impl<A: Acts + Copy> Node<A> {
             Ok(bytes) => bytes,
             Err(_) => return Err(TakeFault::OutOfMemory),
         };
+        if let Some((id, place)) = said_in(&parcel) {
+            return self
+                .hear(book, bytes, id, place)
+                .or(Err(TakeFault::OutOfMemory));
+        }
         let next = match self.next(alloc, &parcel) {
             Ok(next) => next,
             Err(_) => return Err(TakeFault::OutOfMemory),

@@ -170,7 +170,7 @@ impl<A: Acts + Copy> Node<A> {
             ParcelKind::Return => self.broken_return(message, None),
             ParcelKind::Ask => self.broken_return(message, None),
             ParcelKind::Give => self.broken_give(message),
-            ParcelKind::Cached => breaks(8, message, self.records.number() as u128),
+            ParcelKind::Cached => None,
             ParcelKind::Landed => self.broken_landed(message),
             ParcelKind::Free => self.broken_free(message),
         }

@@ -1,17 +1,18 @@
 //! The way of an action: it is accepted, waits for an object that moves, goes on, or begins a move.
-ghost use Rattle.std.specs.Prelude.{◌≡◌, ◌≤◌, ◌+◌, Some, true, false, IfSome, IfNone, slice_get};
+ghost use Rattle.std.specs.Prelude.{◌≡◌, ◌≢◌, ◌≤◌, ◌+◌, Some, true, false, IfSome, IfNone, slice_get};
 ghost use Rattle.std.specs.List.{list_any};
-ghost use Rattle.hpx_journal.specs.Entries.{move_to};
+ghost use Rattle.hpx_journal.specs.Entries.{move_to, target_of};
 ghost use Rattle.hpx_tables.specs.Fit.{IsFit};
 ghost use Rattle.hpx_tables.specs.Kept.{leaves_here, stays_here, grants};
 ghost use Rattle.hpx_steps.specs.Ways.{Begin, way, way_of, move_way, with_act};
+ghost use Rattle.hpx_steps.specs.Cache.{hinted, with_taken};
 ghost use Rattle.hpx_node.specs.Routes.{as_way};
 
 use crate::node::Node;
 use hpx_journal::local::move_to;
 use hpx_parcel::parcel::Parcel;
 use hpx_tables::find::target;
-use hpx_tables::kept::{Fit, Letter};
+use hpx_tables::kept::{Fit, Letter, Outgoing};
 use hpx_tables::queue::Queue;
 use hpx_value::acts::Acts;
 use hpx_value::gid::Gid;
@@ -146,6 +147,46 @@ impl<A: Acts + Copy> Node<A> {
             Way::Queue => self.records.queue(o, Fit::new(act).into_letter()),
             Way::To(to) => self.mail(to, Fit::new(act).into_letter()),
             Way::Begin(place) => self.begin_move(place, act),
+        }
+    }
+
+    /// Behind an action of a locality on a managed object that goes to a place: where that is its home, what was said of the object is
+    /// forgotten; where it goes on from its home, that locality is told where the object is.
+    fn hint(&mut self, o: Gid, origin: u32, place: u32)
+        requires spare { 1 ≤ self.old.spare }
+        requires managed { 16 ≤ o.kind }
+        ensures goes { (act : _) → target_of act ≡ o → act.origin ≡ origin → self.new.tables ≡ hinted act place self.old.tables }
+    {
+        if o.home() != self.here {
+            self.cache.forget(o);
+            return;
+        }
+        if self.is_other(place) && self.is_other(origin) && place != origin {
+            let parcel = Letter::new(Parcel::Cached {
+                id: o.bare(),
+                place: place as u16,
+            });
+            self.outgoing
+                .push_back_reserved(Outgoing { to: origin, parcel });
+        }
+    }
+
+    /// Puts an action that came in a frame where it waits, or sends it on its way, with what the cache or the locality that it is from is
+    /// to know of that.
+    pub(crate) fn take_up(&mut self, act: Act)
+        requires fit { IsFit act }
+        requires plain { act.code ≢ 1 }
+        requires spare { 2 ≤ self.old.spare }
+        ensures goes { self.new.tables ≡ with_taken act self.old.tables }
+    {
+        let way = self.way(&act);
+        let o = target(&act);
+        let origin = act.origin as u32;
+        self.post(act);
+        if let Way::To(place) = way {
+            if o.kind() >= 16 {
+                self.hint(o, origin, place);
+            }
         }
     }
 }

@@ -26,6 +26,7 @@ returns-in-Accept g c =
       sent = c.self.inside.sent;
       taken = c.self.inside.taken;
       answered = c.self.inside.answered;
+      cache = c.self.inside.cache.entries;
     } in
     let way = rw (← c.self.view_is) at c.in-Accept.ensures in
     rw (← c.self.view_is) (own_accepts t c.args.act (parcel_for c.args.act) c.push_back_reserved.new.self.items way (rw c.new.ensures at c.push_back_reserved.ensures.items))
@@ -53,6 +54,7 @@ returns-in_default g c =
       sent = c.self.inside.sent;
       taken = c.self.inside.taken;
       answered = c.self.inside.answered;
+      cache = c.self.inside.cache.entries;
     } in
     let way = rw (← c.self.view_is) at c.way.ensures in
     rw (← c.self.view_is)

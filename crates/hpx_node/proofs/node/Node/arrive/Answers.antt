@@ -30,6 +30,7 @@ take_back-requires-clause-live g c =
       sent = c.self.inside.sent;
       taken = c.self.inside.taken;
       answered = c.self.inside.answered;
+      cache = c.self.inside.cache.entries;
     } in
     let live = rw (← c.self.view_is) at c.requires.live in
     let r = c.landed.new.self in
@@ -60,6 +61,7 @@ take_back-requires-clause-enough g c =
       sent = c.self.inside.sent;
       taken = c.self.inside.taken;
       answered = c.self.inside.answered;
+      cache = c.self.inside.cache.entries;
     } in
     let live = rw (← c.self.view_is) at c.requires.live in
     let r = c.landed.new.self in
@@ -91,6 +93,7 @@ returns-clause-deals g c =
       sent = c.self.inside.sent;
       taken = c.self.inside.taken;
       answered = c.self.inside.answered;
+      cache = c.self.inside.cache.entries;
     } in
     let live = rw (← c.self.view_is) at c.requires.live in
     let r = c.landed.new.self in
@@ -121,6 +124,7 @@ returns-clause-leaves g c =
       sent = c.self.inside.sent;
       taken = c.self.inside.taken;
       answered = c.self.inside.answered;
+      cache = c.self.inside.cache.entries;
     } in
     let live = rw (← c.self.view_is) at c.requires.live in
     let r = c.landed.new.self in
@@ -152,6 +156,7 @@ returns-clause-grows g c =
       sent = c.self.inside.sent;
       taken = c.self.inside.taken;
       answered = c.self.inside.answered;
+      cache = c.self.inside.cache.entries;
     } in
     let live = rw (← c.self.view_is) at c.requires.live in
     let r = c.landed.new.self in

@@ -41,6 +41,7 @@ returns-clause-goes g c =
       sent = c.self.inside.sent;
       taken = c.self.inside.taken;
       answered = c.self.inside.answered;
+      cache = c.self.inside.cache.entries;
     } in
     rw (← c.self.view_is) (moved_goes t c.args.act c.args.place c.in-Some.to c.begin_move.new.self.births c.begin_move.new.self.waiting c.begin_move.new.self.records way c.in-Some.ensures
     (ap (λ (x : Registry Parcel). x.births) c.begin_move.ensures.rest) (ap (λ (x : Registry Parcel). x.waiting) c.begin_move.ensures.rest) (rw c.target.ensures at c.begin_move.ensures.records)

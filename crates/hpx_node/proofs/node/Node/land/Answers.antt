@@ -35,6 +35,7 @@ returns-then-not-may_land-clause-deals g c =
       sent = c.self.inside.sent;
       taken = c.self.inside.taken;
       answered = c.self.inside.answered;
+      cache = c.self.inside.cache.entries;
     } in
     let may = rw (← c.self.view_is) at (sym c.may_land.ensures ∙ c.if-not-may_land.true) in
     rw (← c.self.view_is)
@@ -68,6 +69,7 @@ returns-clause-deals g c =
       sent = c.self.inside.sent;
       taken = c.self.inside.taken;
       answered = c.self.inside.answered;
+      cache = c.self.inside.cache.entries;
     } in
     let may = rw (← c.self.view_is) at (sym c.may_land.ensures ∙ c.if-not-may_land.false) in
     let object : c.bare-object.result ≡ bare (target_of c.args.action) = rw c.target.ensures at c.bare-object.ensures in
@@ -99,6 +101,7 @@ returns-clause-grows g c =
       sent = c.self.inside.sent;
       taken = c.self.inside.taken;
       answered = c.self.inside.answered;
+      cache = c.self.inside.cache.entries;
     } in
     let may = rw (← c.self.view_is) at (sym c.may_land.ensures ∙ c.if-not-may_land.false) in
     let object : c.bare-object.result ≡ bare (target_of c.args.action) = rw c.target.ensures at c.bare-object.ensures in
