@@ -28,6 +28,7 @@ pub mod Messages
 pub mod Numbers
 pub mod OfPrepared
 pub mod Passive
+pub mod Plain
 pub mod Paused
 pub mod PlanLimits
 pub mod PlanRoom

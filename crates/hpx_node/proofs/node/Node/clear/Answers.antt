@@ -2,6 +2,7 @@ use Rattle.hpx_node.proofs.Common.{IsTidy, Locality, Parcel, Stands, Tables, [],
 use Rattle.hpx_node.proofs.FewEntries.{popped_tidy}
 use Rattle.hpx_node.proofs.Emptied.{lands_is}
 use Rattle.hpx_node.proofs.Followed.{next_gives}
+use Rattle.hpx_node.proofs.Plain.{plain_first}
 use Rattle.hpx_steps.specs.Rest.{StandsBut}
 use Rattle.hpx_node.proofs.Released.{accepts_queued, made_popped, room_to_go, went_on}
 use Rattle.hpx_node.proofs.Same.{same_too}
@@ -37,6 +38,12 @@ enter_mail-requires-clause-tidy g c =
     let first = c.in-Some-pop_front.ensures.items ∙ ap (λ (q : Parcel). q ∷ c.pop_front.new.self.items) (sym c.into_parcel.ensures.parcel) in
     popped_tidy c.into_parcel.result _ c.pop_front.new.self.items first
     (subst (λ (t : Tables). IsTidy t []) (sym same.tables) (at_rest_tidy g.A.Acts.act_of _ _ c.requires.stands))
+
+pub enter_mail-requires-clause-plain : goal.enter_mail-requires-clause-plain
+enter_mail-requires-clause-plain g c =
+    let same = rw (← c.self-2.view_is) at c.reserve_turn.ensures.same in
+    let first = c.in-Some-pop_front.ensures.items ∙ ap (λ (q : Parcel). q ∷ c.pop_front.new.self.items) (sym c.into_parcel.ensures.parcel) in
+    plain_first c.args.self.now.tables _ _ _ c.into_parcel.result c.pop_front.new.self.items same first (at_rest_tidy g.A.Acts.act_of _ _ c.requires.stands)
 
 pub enter_mail-requires-clause-spare : goal.enter_mail-requires-clause-spare
 enter_mail-requires-clause-spare g c =

@@ -1,6 +1,7 @@
 use Rattle.hpx_node.proofs.Common.{IsTidy, None, Some, Stands, Tables, [], ap, arith, broken_near, near_right, length, parcel_of, parcel_spelled, subst, sym, when_ok, ◌∙◌, ◌≡◌, ◌≤◌}
 use Rattle.hpx_node.proofs.Emptied.{lands_is}
 use Rattle.hpx_node.proofs.Followed.{next_gives}
+use Rattle.hpx_node.proofs.Plain.{plain_by, said_so}
 use Rattle.hpx_steps.specs.Rest.{StandsBut}
 use Rattle.hpx_node.proofs.Released.{deals_queued, room_to_go, went_on}
 use Rattle.hpx_node.proofs.Same.{same_too}
@@ -23,6 +24,9 @@ pub enter_frame-requires-clause-right : goal.enter_frame-requires-clause-right
 enter_frame-requires-clause-right g c =
     subst (λ (t : Tables). broken_near t c.in-Ok.parcel ≡ None) (sym c.reserve_turn.ensures.same.tables)
     (near_right c.args.self.now.tables c.in-Ok.parcel (sym c.broken.ensures ∙ c.in_default.is)).1
+
+pub enter_frame-requires-clause-plain : goal.enter_frame-requires-clause-plain
+enter_frame-requires-clause-plain g c = plain_by c.in-Ok.parcel (sym c.said_in.ensures ∙ c.in_default-said_in.is)
 
 pub enter_frame-requires-clause-few : goal.enter_frame-requires-clause-few
 enter_frame-requires-clause-few g c =
