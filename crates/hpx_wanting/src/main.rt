@@ -1,6 +1,7 @@
 //! A short session over a world, step by step. Where memory is wanting, the journal that is left is judged, what is out has to have been
 //! handed back, and the session goes on from there: so each allocation can be refused in turn. The input is a number: so many
-//! allocations are made before the session. The status is 6 where memory was wanting, and 1 where what was left then was not right.
+//! allocations are made before the session. The status is 6 where memory was wanting, and 1 where what was left then was not right, or the
+//! session was broken off though there was a world.
 #![tactic(auto)]
 
 mod story;
@@ -38,12 +39,14 @@ fn spend(alloc: Global, times: u32) -> Result<(), OutOfMemory> {
     Ok(())
 }
 
-/// What the session comes to.
+/// What the session comes to. Once there is a world, none may be broken off.
 fn played(alloc: Global, before: u32) -> Result<Told, OutOfMemory> {
     spend(alloc, before)?;
     let mut session = Session::boot(alloc)?;
     for line in LINES {
-        session.line(alloc, *line)?;
+        if session.line(alloc, *line).is_err() {
+            return Ok(session.broken_off());
+        }
     }
     Ok(session.told(alloc))
 }

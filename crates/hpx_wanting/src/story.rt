@@ -153,6 +153,14 @@ impl Session {
         self.world.quiet() && text.as_slice() == TEXT && is_legal(alloc, &self.world, PROFILE)
     }
 
+    /// What a session came to that was broken off.
+    pub fn broken_off(&self) -> Told {
+        Told {
+            wanted: self.wanted,
+            wrong: true,
+        }
+    }
+
     /// What it came to. Where memory was wanting to tell it, that is tried once more.
     pub fn told(&self, alloc: Global) -> Told {
         let whole = self.is_whole(alloc) || self.is_whole(alloc);
